@@ -1,0 +1,14 @@
+pub mod Sets
+pub mod Facts
+pub mod Maps
+pub mod Variables
+pub mod Search
+pub mod Seek
+pub mod Kept
+pub mod Invent
+pub mod Places
+pub mod Steps
+pub mod Universal
+pub mod Bounds
+pub mod Fits
+pub mod Runs
