@@ -1,3 +1,4 @@
+pub mod Values
 pub mod Sets
 pub mod Facts
 pub mod Maps

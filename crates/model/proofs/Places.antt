@@ -12,8 +12,9 @@ use Rattle.model.specs.Order.{_∈_, Ordered}
 use Rattle.model.specs.Facts.{Fact, earlier}
 use Rattle.model.specs.Rules.{Atom, Rule, bodyOf}
 use Rattle.model.specs.Match.{Env, nothing, fit, consider, fits, gather, matches, isActive, first, actingMatch}
-use Rattle.model.specs.Places.{At, Take}
+use Rattle.model.specs.Places.{At, Take, FirstActive}
 use Rattle.model.proofs.Sets.{in-map, map-in, no-both}
+use Rattle.model.proofs.Kept.{active-iff}
 use Rattle.model.proofs.Facts.{lex-less, lex-same}
 
 -- a match with the places that it takes
@@ -240,25 +241,26 @@ first-least test (s ∷ ss) e o p = go (test (s .1)) refl p (first-least test ss
             least t (here z) w = absurd (no-both (ap (λ x. test (x .1)) (sym z) ∙ w) q)
             least t (there m) w = r .least t m w
 
--- THE ACTING MATCH of a rule takes the first places of all active ones
-pub record Acting (inst : List Fact) (rule : Rule) (e : Env) : Type 0 where
-  pub places : List ℕ
-  pub take : Take inst (bodyOf rule) places nothing e
-  pub active : isActive inst rule e ≡ true
-  pub least : (ps : List ℕ) (d : Env) → Take inst (bodyOf rule) ps nothing d → isActive inst rule d ≡ true → (ps ≡ places) ⊎ (earlier places ps ≡ true)
+-- a match that takes places is found
+take-found : (inst : List Fact) (ats : List Atom) (ps : List ℕ) (d : Env) → Take inst ats ps nothing d → d ∈ matches inst ats nothing
+take-found inst ats ps d t = subst (λ es. d ∈ es) (spots-values inst ats nothing) (in-map (λ s. s .1) (take-spots inst ats ps nothing d t))
 
-pub acting-first : (inst : List Fact) (rule : Rule) (e : Env) → actingMatch inst rule ≡ some e → Acting inst rule e
+-- THE ACTING MATCH of a rule takes the first places of all active ones
+pub acting-first : (inst : List Fact) (rule : Rule) (e : Env) → actingMatch inst rule ≡ some e → FirstActive inst rule e
 unfolding actingMatch
 acting-first inst rule e p = go (first-least (isActive inst rule) ss e (spots-ordered inst (bodyOf rule) nothing) (rw spots-values p))
   where
     ss : List Spot
     ss = spots inst (bodyOf rule) nothing
 
-    go : First (isActive inst rule) ss e → Acting inst rule e
+    go : First (isActive inst rule) ss e → FirstActive inst rule e
     go r =
+        let t : Take inst (bodyOf rule) (r .places) nothing e = spots-take inst (bodyOf rule) nothing (r .places, e) (r .listed) in
         record {
           places = r .places;
-          take = spots-take inst (bodyOf rule) nothing (r .places, e) (r .listed);
-          active = r .passes;
-          least = λ ps d t a. r .least (ps, d) (take-spots inst (bodyOf rule) ps nothing d t) a;
+          takes = t;
+          active = active-iff inst rule e (take-found inst (bodyOf rule) (r .places) e t) .0 (r .passes);
+          first =
+              λ ps d u a.
+              r .least (ps, d) (take-spots inst (bodyOf rule) ps nothing d u) (active-iff inst rule d (take-found inst (bodyOf rule) ps d u) .1 a);
         }

@@ -1,11 +1,8 @@
 -- A graph of plain and special edges over positions: paths, weak acyclicity, ranks and generations, as published. Assumes nothing.
 use mathlib.Core.Path.{_≡_}
 use mathlib.Core.Logic.{_⊎_}
-use mathlib.Core.Bool.{Bool, true, false, _&&_}
-use mathlib.Core.List.{List, [], _∷_, List·Memᴰ}
-use Prim.Native.Nat.{ℕ, zero, suc, _+_, _*_, _≤_, _<_, min, max}
-use lib.Dec.{ltb}
-use lib.ListN.{length, getD, replicate}
+use mathlib.Core.List.{List, List·Memᴰ}
+use Prim.Native.Nat.{ℕ, suc, _≤_, _<_}
 
 -- an edge from a position to a position, plain or special
 pub data Edge : Type 0 where

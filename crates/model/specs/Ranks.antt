@@ -4,7 +4,7 @@ use mathlib.Core.List.{List, [], _∷_, map}
 use Prim.Native.Nat.{ℕ, zero, suc, _+_, _*_, min, max}
 use lib.Dec.{ltb}
 use lib.ListN.{getD, replicate}
-use Rattle.model.specs.Graph.{Edge, plain, special, source, target}
+use Rattle.model.specs.Graph.{Edge, plain, special, target}
 
 abbrev pub value : List ℕ → ℕ → ℕ
 value r v = getD r v 0
