@@ -13,3 +13,11 @@ pub mod Universal
 pub mod Bounds
 pub mod Fits
 pub mod Runs
+pub mod Pigeon
+pub mod Raise
+pub mod RankLaws
+pub mod EdgeLaws
+pub mod Published
+pub mod Generations
+pub mod SameEdges
+pub mod Examples
