@@ -1,0 +1,23 @@
+-- What each answer of a field reader means: the paper's value with the place after it, or the refusal. Assumes nothing.
+use Prim.Native.Nat.{ℕ}
+use Rattle.model.specs.Job.{Got, got, refused}
+use Rattle.fields.specs.declared.Refusal.{Refusal}
+use Rattle.fields.specs.declared.Field.{Field}
+use Rattle.fields.specs.declared.Field.the-variants as F
+use Rattle.fields.specs.declared.Step.{Step}
+use Rattle.fields.specs.declared.Step.the-variants as S
+
+-- a field's value with the next place, or the refusal
+abbrev pub ofField : Field → Got ℕ
+ofField (F.Value v c) = got v (c .at)
+ofField (F.Refused r) = refused (r .number) (r .place)
+
+-- what stands beside a step, with the next place; or the refusal
+abbrev pub ofStep : {A : Type 0} → Step → A → Got A
+ofStep (S.Next c) a = got a (c .at)
+ofStep (S.Refused r) a = refused (r .number) (r .place)
+
+-- the refusal in an answer
+abbrev pub refusalIn : {A : Type 0} → Got A → Refusal
+refusalIn (got a p) = record { number = 0; place = 0 }
+refusalIn (refused n p) = record { number = n; place = p }

@@ -1,0 +1,45 @@
+// Verdict, ranks and generations of a job's rules. Assumes rules as the reader accepts them, and at least 512 lent words.
+ghost use mathlib.Core.Path.{_≡_};
+ghost use mathlib.Core.List.{_++_};
+ghost use Prim.Native.Nat.{_≤_};
+ghost use lib.ListN.{length, drop};
+ghost use Rattle.rules.specs.Rules.{rulesOf, GoodRules};
+ghost use Rattle.model.specs.Edges.{edges};
+ghost use Rattle.model.specs.Ranks.{positions, rankWords, acyclic, generations};
+
+pub mod table;
+pub mod words;
+
+use rules::Rules;
+
+// The rank of a position: a number of special edges, or 65,535 if there is no largest.
+pub struct Rank {
+    pub word: u16,
+}
+
+impl Rank {
+    // The words of all positions: 64 relations of 8 places.
+    pub const WORDS: usize = 512;
+    // The word of a position without a largest number.
+    pub const ENDLESS: u16 = 65535;
+}
+
+// Whether the rules are weakly acyclic, and how many times blanks can be invented from invented blanks.
+pub struct Verdict {
+    pub acyclic: bool,
+    pub generations: u16,
+}
+
+// The verdict on the rules, with the rank words of all positions set.
+pub fn judge(rules: Rules, ranks: &mut [u16]) -> Verdict
+    requires { ⌜ GoodRules rules × (512 ≤ length (now ranks)) ⌝ }
+    ensures words { λ v. ⌜ now (ranks .exit) ≡ rankWords (edges (rulesOf rules)) ++ drop 512 (now (ranks .entry)) ⌝ }
+    ensures acyclic { λ v. ⌜ v .acyclic ≡ acyclic positions (edges (rulesOf rules)) ⌝ }
+    ensures generations { λ v. ⌜ v .generations ≡ generations positions (edges (rulesOf rules)) ⌝ }
+{
+    let n = rules.count;
+    let mut codes = [0u16; 8192];
+    let mut counts = [0usize; 128];
+    table::pack(rules, &mut codes, &mut counts);
+    words::judged(&codes, &counts, n, &mut ranks[..512])
+}

@@ -1,0 +1,5 @@
+pub mod Lists
+pub mod Rounds
+pub mod Turns
+pub mod Sweeps
+pub mod Levels

@@ -1,0 +1,114 @@
+-- The loops of a round, turn by turn: what is left, applied to what there is, makes the whole. Assumes nothing.
+use mathlib.Core.Path.{_≡_, refl, sym, ap, ap₂, _∙_}
+use mathlib.Core.Bool.{Bool, false, _||_}
+use mathlib.Core.List.{List, [], _∷_, _++_, append-assoc, append-nil}
+use Prim.Native.Nat.{ℕ, suc, _+_, _-_, _/_, _%_, _≤_, _<_, min, max}
+use native.Mathlib.Nat.{le-refl}
+use native.Mathlib.Numerals.{add-one}
+use native.Mathlib.Omega.{arith}
+use lib.Dec.{ltb}
+use lib.ListN.{length, getD, drop, take, set, replicate, drop-of-length-le}
+use lib.Seq.{drop-cons, take-suc-set, drop-set-lt, take-all}
+use Rattle.model.specs.Edges.{Spot}
+use Rattle.model.specs.Ranks.{value, raise, sum, pick}
+use Rattle.model.proofs.Raise.{kept, flag-join, length-raise, raise-below, below-sum}
+use Rattle.rounds.specs.Table.{spotOf, spotsIn, Codes}
+use Rattle.rounds.proofs.Lists.{all-most}
+use Rattle.rounds.specs.Offers.{lift, mark, pour, top, gives, ruleRound}
+
+-- a code that is read
+pub code-at : (codes : List ℕ) → Codes codes → (i : ℕ) → getD codes i 0 < 8192
+code-at codes fine i = let h = all-most 8191 codes (λ k m. let l = fine k m in omega arith) i in omega arith
+
+-- a loop over the codes that does one step for each spot
+module _ (whole : List ℕ → List Spot → List ℕ) (step : List ℕ → Spot → List ℕ) (one : (l : List ℕ) (s : Spot) (ss : List Spot) → whole l (s ∷ ss) ≡ whole (step l s) ss) (codes : List ℕ) (i : ℕ) (l all : List ℕ) (inv : whole l (spotsIn (drop i codes)) ≡ all) where
+  pub spot-turn : i < length codes → (m : List ℕ) → m ≡ step l (spotOf (getD codes i 0)) → whole m (spotsIn (drop (i + 1) codes)) ≡ all
+  spot-turn h m e =
+      ap₂ (λ (x : List ℕ) (k : ℕ). whole x (spotsIn (drop k codes))) e (add-one i)
+      ∙ sym (one l (spotOf (getD codes i 0)) (spotsIn (drop (suc i) codes)))
+      ∙ ap (λ (x : List ℕ). whole l (spotsIn x)) (sym (drop-cons codes i 0 h))
+      ∙ inv
+
+  pub spot-end : length codes ≤ i → whole l [] ≡ l → l ≡ all
+  spot-end h e = sym e ∙ ap (λ (x : List ℕ). whole l (spotsIn x)) (sym (drop-of-length-le codes h)) ∙ inv
+
+-- the loops that lift, mark and pour
+
+pub lift-turn : (r codes : List ℕ) (i : ℕ) (b all : List ℕ) → lift b r (spotsIn (drop i codes)) ≡ all → i < length codes
+    → (m : List ℕ) → m ≡ raise b (getD codes i 0 / 512) (value r (getD codes i 0 % 512) + 1) → lift m r (spotsIn (drop (i + 1) codes)) ≡ all
+lift-turn r codes i b all inv h m e =
+    spot-turn (λ (l : List ℕ) (ss : List Spot). lift l r ss) (λ (l : List ℕ) (s : Spot). raise l (s .name) (suc (value r (s .at)))) (λ l s ss. refl) codes i b all inv h m
+    (e ∙ ap (λ (k : ℕ). raise b (getD codes i 0 / 512) k) (add-one (value r (getD codes i 0 % 512))))
+
+pub lift-end : (r codes : List ℕ) (i : ℕ) (b all : List ℕ) → lift b r (spotsIn (drop i codes)) ≡ all → length codes ≤ i → b ≡ all
+lift-end r codes i b all inv h =
+    spot-end (λ (l : List ℕ) (ss : List Spot). lift l r ss) (λ (l : List ℕ) (s : Spot). raise l (s .name) (suc (value r (s .at)))) (λ l s ss. refl) codes i b all inv h refl
+
+pub mark-turn : (codes : List ℕ) (i : ℕ) (b all : List ℕ) → mark b (spotsIn (drop i codes)) ≡ all → i < length codes
+    → (m : List ℕ) → m ≡ raise b (getD codes i 0 / 512) 1 → mark m (spotsIn (drop (i + 1) codes)) ≡ all
+mark-turn codes i b all inv h m e = spot-turn mark (λ (l : List ℕ) (s : Spot). raise l (s .name) 1) (λ l s ss. refl) codes i b all inv h m e
+
+pub mark-end : (codes : List ℕ) (i : ℕ) (b all : List ℕ) → mark b (spotsIn (drop i codes)) ≡ all → length codes ≤ i → b ≡ all
+mark-end codes i b all inv h = spot-end mark (λ (l : List ℕ) (s : Spot). raise l (s .name) 1) (λ l s ss. refl) codes i b all inv h refl
+
+pub record Pouring (o r₀ codes r : List ℕ) (changed : Bool) (i : ℕ) : Type 0 where
+  pub at-most : i ≤ length codes
+  pub long : length r ≡ 512
+  pub rest : pour o r (spotsIn (drop i codes)) ≡ pour o r₀ (spotsIn codes)
+  pub flag : changed ≡ ltb (sum r₀) (sum r)
+  pub up : sum r₀ ≤ sum r
+
+pub pouring-start : (o r codes : List ℕ) → length r ≡ 512 → Pouring o r codes r false 0
+pouring-start o r codes h = record { at-most = omega arith; long = h; rest = refl; flag = kept (sum r); up = le-refl (sum r) }
+
+pub pouring-step : (o r₀ codes r : List ℕ) (changed : Bool) (i : ℕ) → Pouring o r₀ codes r changed i → i < length codes
+    → (m : List ℕ) (now up : Bool) → m ≡ raise r (getD codes i 0 % 512) (getD o (getD codes i 0 / 512) 0) → up ≡ ltb (sum r) (sum m) → now ≡ (changed || up) → Pouring o r₀ codes m now (i + 1)
+pouring-step o r₀ codes r changed i inv h m now up e f g =
+    let k = below-sum (raise-below r (getD codes i 0 % 512) (getD o (getD codes i 0 / 512) 0)) in
+    let s = ap sum e in
+    let u = inv .up in
+    record {
+      at-most = omega arith;
+      long = ap length e ∙ length-raise r (getD codes i 0 % 512) (getD o (getD codes i 0 / 512) 0) ∙ inv .long;
+      rest = spot-turn (λ (l : List ℕ) (ss : List Spot). pour o l ss) (λ (l : List ℕ) (x : Spot). raise l (x .at) (value o (x .name))) (λ l x ss. refl) codes i r (pour o r₀ (spotsIn codes)) (inv .rest) h m e;
+      flag = g ∙ ap₂ _||_ (inv .flag) f ∙ flag-join (sum r₀) (sum r) (sum m) u (omega arith);
+      up = omega arith;
+    }
+
+pub pouring-end : (o r₀ codes r : List ℕ) (changed : Bool) (i : ℕ) → Pouring o r₀ codes r changed i → length codes ≤ i → r ≡ pour o r₀ (spotsIn codes)
+pouring-end o r₀ codes r changed i inv h =
+    spot-end (λ (l : List ℕ) (ss : List Spot). pour o l ss) (λ (l : List ℕ) (x : Spot). raise l (x .at) (value o (x .name))) (λ l x ss. refl) codes i r (pour o r₀ (spotsIn codes)) (inv .rest) h refl
+
+-- the largest so far, and of what is left
+pub top-turn : (b h : List ℕ) (i t v n all : ℕ) → i < length b → i < length h → v ≡ pick (ltb 0 (getD h i 0)) (getD b i 0) 0 → n ≡ max t v
+    → max t (top (drop i b) (drop i h)) ≡ all → max n (top (drop (i + 1) b) (drop (i + 1) h)) ≡ all
+top-turn b h i t v n all hb hh e k inv =
+    let q : top (drop i b) (drop i h) ≡ max (pick (ltb 0 (getD h i 0)) (getD b i 0) 0) (top (drop (i + 1) b) (drop (i + 1) h)) =
+    ap₂ top (drop-cons b i 0 hb) (drop-cons h i 0 hh)
+    ∙ ap (λ (n : ℕ). max (pick (ltb 0 (getD h i 0)) (getD b i 0) 0) (top (drop n b) (drop n h))) (sym (add-one i)) in
+    omega arith
+
+pub top-end : (b h : List ℕ) (i t : ℕ) → length b ≤ i → max t (top (drop i b) (drop i h)) ≡ t
+top-end b h i t k = let e : top (drop i b) (drop i h) ≡ 0 = ap (λ (l : List ℕ). top l (drop i h)) (drop-of-length-le b k) in omega arith
+
+-- the offers so far, and of what is left
+pub gives-turn : (t : ℕ) (o all : List ℕ) (i v : ℕ) → i < length o → v ≡ pick (ltb 0 (getD o i 0)) (getD o i 0 - 1) t → take i o ++ gives t (drop i o) ≡ all
+    → take (i + 1) (set o i v) ++ gives t (drop (i + 1) (set o i v)) ≡ all
+gives-turn t o all i v h e inv =
+    ap (λ (k : ℕ). take k (set o i v) ++ gives t (drop k (set o i v))) (add-one i)
+    ∙ ap₂ (λ (x y : List ℕ). x ++ gives t y) (take-suc-set o i v h) (drop-set-lt (suc i) o i v (le-refl (suc i)))
+    ∙ append-assoc (take i o) (v ∷ []) (gives t (drop (suc i) o))
+    ∙ ap (λ (n : ℕ). take i o ++ (n ∷ gives t (drop (suc i) o))) e
+    ∙ ap (λ (l : List ℕ). take i o ++ gives t l) (sym (drop-cons o i 0 h))
+    ∙ inv
+
+pub gives-end : (t : ℕ) (o all : List ℕ) (i : ℕ) → length o ≤ i → take i o ++ gives t (drop i o) ≡ all → o ≡ all
+gives-end t o all i h inv =
+    sym (append-nil o) ∙ ap₂ (λ (x y : List ℕ). x ++ gives t y) (sym (take-all i o h)) (sym (drop-of-length-le o h)) ∙ inv
+
+-- the parts of a round, put together
+pub assembled : (c : ℕ) (r : List ℕ) (body head : List Spot) (b h o out : List ℕ) (t m : ℕ) → b ≡ lift (replicate 16 0) r body → h ≡ mark (replicate 16 0) head → t ≡ top b h
+    → m ≡ min c t → o ≡ gives m b → out ≡ pour o r head → out ≡ ruleRound c r body head
+unfolding ruleRound
+assembled c r body head b h o out t m eb eh et em eo e =
+    e ∙ ap (λ (l : List ℕ). pour l r head) (eo ∙ ap₂ gives (em ∙ ap (min c) (et ∙ ap₂ top eb eh)) eb)
