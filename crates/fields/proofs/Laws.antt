@@ -155,11 +155,6 @@ step-short s a r x e d = rw (e, d)
 pub gives : {A : Type 0} (s : Step) (a : A) (r : Refusal) → s ≡ S.Refused r → ofStep s a ≡ refused (r .number) (r .place)
 gives s a r e = rw e
 
--- a refusal beside which something else stands
-pub refusal-alike : {A B : Type 0} (s : Step) (a : A) (b : B) (n p : ℕ) → ofStep s a ≡ refused n p → ofStep s b ≡ refused n p
-refusal-alike (S.Next c) a b n p e = absurd (never a (c .at) n p e)
-refusal-alike (S.Refused r) a b n p e = cc
-
 -- ---- the loops: n are left, and K is what becomes of the list of those
 module _ {A B : Type 0} (r : Reader A) (bs : List ℕ) (at : ℕ) (K : List A → ℕ → Got B) where
   pub more : (n m : ℕ) (x : A) (q : ℕ) (K′ : List A → ℕ → Got B) → n ≡ suc m → r bs at ≡ got x q → ((xs : List A) (p : ℕ) → K (x ∷ xs) p ≡ K′ xs p) →

@@ -132,7 +132,7 @@ impl Cursor {
     }
 
     // A field of two bytes.
-    pub fn half(self, s: &[u8]) -> Field
+    fn half(self, s: &[u8]) -> Field
         ensures { λ r. ⌜ ofField r ≡ readHalf (now (s .entry)) (self .at) ⌝ }
     {
         let at = self.at;
@@ -147,7 +147,7 @@ impl Cursor {
     }
 
     // A field of four bytes.
-    pub fn word(self, s: &[u8]) -> Field
+    fn word(self, s: &[u8]) -> Field
         ensures { λ r. ⌜ ofField r ≡ readWord (now (s .entry)) (self .at) ⌝ }
     {
         let at = self.at;

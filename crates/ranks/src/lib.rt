@@ -7,8 +7,8 @@ ghost use Rattle.rules.specs.Rules.{rulesOf, GoodRules};
 ghost use Rattle.model.specs.Edges.{edges};
 ghost use Rattle.model.specs.Ranks.{positions, rankWords, acyclic, generations};
 
-pub mod table;
-pub mod words;
+mod reading;
+mod table;
 
 use rules::Rules;
 
@@ -41,5 +41,5 @@ pub fn judge(rules: Rules, ranks: &mut [u16]) -> Verdict
     let mut codes = [0u16; 8192];
     let mut counts = [0usize; 128];
     table::pack(rules, &mut codes, &mut counts);
-    words::judged(&codes, &counts, n, &mut ranks[..512])
+    reading::judged(&codes, &counts, n, &mut ranks[..Rank::WORDS])
 }

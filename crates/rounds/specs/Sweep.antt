@@ -3,10 +3,11 @@ use Prim.Native.Nat.{ℕ, _-_, _≤_, _<_}
 use mathlib.Core.Path.{_≡_}
 use mathlib.Core.Logic.{_⊎_}
 use mathlib.Core.List.{List, [], _∷_}
+use lib.Dec.{ltb}
 use lib.ListN.{length}
 use Rattle.model.specs.Order.{_∈_}
 use Rattle.model.specs.Graph.{Edge, target, Reaches}
-use Rattle.model.specs.Ranks.{value, offer}
+use Rattle.model.specs.Ranks.{value, offer, pick}
 use Rattle.rounds.specs.Table.{Pair}
 use Rattle.rounds.specs.Offers.{ruleRound}
 
@@ -40,3 +41,7 @@ Free r x = (v : ℕ) → v < 512 → value r v ≡ x → ⊥
 -- what c stands for in r is 'no largest': c - 1 is free, or c is as many as there are positions
 abbrev pub Enough : List ℕ → ℕ → Type 0
 Enough r c = (0 < c) × (Free r (c - 1) ⊎ (c ≡ 512))
+
+-- c as 'no largest' becomes 65,535
+abbrev pub wordFrom : ℕ → ℕ → ℕ
+wordFrom c x = pick (ltb x c) x 65535

@@ -1,3 +1,4 @@
-// Numbers that no round of packed rules raises any more: from them the ranks are read. Assumes packed rules, and 512 numbers.
-pub mod round;
-pub mod settle;
+// The rank words of packed rules, by rounds until nothing changes. Assumes packed rules, and 512 words.
+mod round;
+mod settle;
+pub mod words;

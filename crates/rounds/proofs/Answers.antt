@@ -1,0 +1,106 @@
+-- The words that the settled numbers give are the rank words, and the loops that set words, turn by turn. Assumes nothing.
+use mathlib.Core.Path.{_≡_, refl, sym, ap, ap₂, _∙_, subst}
+use mathlib.Core.Logic.{_⊎_, inl, inr, ⊎-elim}
+use mathlib.Core.Bool.{Bool}
+use mathlib.Core.List.{List, [], _∷_, _++_, map, append-assoc, append-nil, List·Memᴰ·not-nil as not-in-nil, List·Memᴰ·append-cases as append-cases, List·Memᴰ·head as here, List·Memᴰ·tail as there, Memᴰ·cast as cast-in}
+use Prim.Native.Nat.{ℕ, zero, suc, _+_, _-_, _≤_, _<_}
+use native.Mathlib.Nat.{le-refl}
+use native.Mathlib.Decide.{decLt}
+use native.Mathlib.Numerals.{add-one}
+use native.Mathlib.Omega.{arith}
+use lib.ListN.{length, getD, take, drop, set, replicate, length-map, drop-of-length-le}
+use lib.Seq.{drop-cons, take-suc-set, drop-set-lt, take-all}
+use borrow.Author.Tests.{lt-ltb, le-ltb}
+use Rattle.model.specs.Order.{_∈_}
+use Rattle.model.specs.Graph.{Edge, plain, special, source, target, Infinite, Within}
+use Rattle.model.specs.Edges.{Spot, fans}
+use Rattle.model.specs.Ranks.{value, pick, rankWords}
+use Rattle.model.proofs.Pigeon.{gap, value-mem}
+use Rattle.model.proofs.RankLaws.{finite, endless}
+use Rattle.model.proofs.EdgeLaws.{fans-edge}
+use Rattle.model.proofs.Published.{IsWord, words-one, words-right, value-map}
+use Rattle.rounds.specs.Table.{Pair, graph}
+use Rattle.rounds.specs.Sweep.{Settled, Free, Enough, wordFrom}
+use Rattle.rounds.proofs.Sweeps.{Near, Placed}
+
+-- the edges run between positions
+
+fans-within : (body head : List Spot) → Near body → Near head → Within 512 (fans body body head)
+fans-within body head nb nh e m =
+    let h = fans-edge body body head e m in
+    go (h .0) (h .3 .0) (h .1) (h .3 .1) (⊎-elim (λ q. inl (q .1)) (λ q. inr (q .1)) (h .3 .2))
+  where
+    go : (s t : Spot) → s ∈ body → t ∈ head → (e ≡ plain (s .at) (t .at)) ⊎ (e ≡ special (s .at) (t .at)) → (source e < 512) × (target e < 512)
+    go s t i j (inl q) = subst (λ (x : Edge). (source x < 512) × (target x < 512)) (sym q) (nb s i .1, nh t j .1)
+    go s t i j (inr q) = subst (λ (x : Edge). (source x < 512) × (target x < 512)) (sym q) (nb s i .1, nh t j .1)
+
+pub graph-within : (ps : List Pair) → Placed ps → Within 512 (graph ps)
+graph-within [] h e m = absurd (not-in-nil m)
+graph-within (p ∷ ps) h e m =
+    let n = h p (here refl) in
+    ⊎-elim (λ i. fans-within (p .body) (p .head) (n .0) (n .1) e i) (λ i. graph-within ps (λ q j. h q (there j)) e i)
+    (append-cases (fans (p .body) (p .body) (p .head)) m)
+
+-- the words
+
+module _ (g : List Edge) (within : Within 512 g) (c : ℕ) (r : List ℕ) (s : Settled g c r) (enough : Enough r c) where
+  -- a number that no position has, below one that stands at c
+  free : (v : ℕ) → v < 512 → c ≤ value r v → (k : ℕ) × (k < value r v) × (k ≤ c) × Free r k
+  free v h l = ⊎-elim (λ f. (c - 1, let p = enough .0 in omega arith, omega arith, f)) pigeon (enough .1)
+    where
+      pigeon : c ≡ 512 → (k : ℕ) × (k < value r v) × (k ≤ c) × Free r k
+      pigeon e = (p .0, lt, omega (arith, p .1, s .long), none)
+        where
+          p : (k : ℕ) × (k ≤ length r) × (k ∈ r → ⊥)
+          p = gap r
+
+          none : Free r (p .0)
+          none w x q = p .2 (cast-in (sym q) (value-mem r w (omega (arith, s .long))))
+
+          lt : p .0 < value r v
+          lt = let n = none v h in omega (arith, p .1, s .long)
+
+  endless-at : (v : ℕ) → v < 512 → c ≤ value r v → Infinite g v
+  endless-at v h l n =
+      let f = free v h l in
+      endless c g r (s .closed) (f .0) (f .2) (λ e i. f .3 (source e) (within e i .0)) (s .sound) n v (f .1)
+
+  is-word : (v : ℕ) → v < 512 → IsWord g v (wordFrom c (value r v))
+  is-word v h = go (decLt (value r v) c)
+    where
+      go : Dec (value r v < c) → IsWord g v (wordFrom c (value r v))
+      go (yes l) =
+          let e : value r v ≡ wordFrom c (value r v) = ap (λ (b : Bool). pick b (value r v) 65535) (sym (lt-ltb (value r v) c l)) in
+          let k = s .cap in
+          subst (IsWord g v) e (inl (omega arith, finite c g r (s .closed) (s .sound) v l))
+      go (no l) =
+          let k : c ≤ value r v = omega arith in
+          inr (ap (λ (b : Bool). pick b (value r v) 65535) (le-ltb (value r v) c k), endless-at v h k)
+
+  -- the words are the rank words
+  pub answer : map (wordFrom c) r ≡ rankWords g
+  answer =
+      words-one g (map (wordFrom c) r) (rankWords g)
+      (record { long = length-map r (wordFrom c) ∙ s .long; each = λ v h. subst (IsWord g v) (sym (value-map (wordFrom c) r v (omega (arith, s .long)))) (is-word v h) })
+      (words-right g within)
+
+-- the loops
+
+-- a store into what is mapped from the front on
+pub map-turn : (f : ℕ → ℕ) (o all n : List ℕ) (i v : ℕ) → i < length o → v ≡ f (getD o i 0) → n ≡ set o i v → take i o ++ map f (drop i o) ≡ all
+    → take (i + 1) n ++ map f (drop (i + 1) n) ≡ all
+map-turn f o all n i v h e q inv =
+    ap (λ (l : List ℕ). take (i + 1) l ++ map f (drop (i + 1) l)) q
+    ∙ ap (λ (k : ℕ). take k (set o i v) ++ map f (drop k (set o i v))) (add-one i)
+    ∙ ap₂ (λ (x y : List ℕ). x ++ map f y) (take-suc-set o i v h) (drop-set-lt (suc i) o i v (le-refl (suc i)))
+    ∙ append-assoc (take i o) (v ∷ []) (map f (drop (suc i) o))
+    ∙ ap (λ (x : ℕ). take i o ++ (x ∷ map f (drop (suc i) o))) e
+    ∙ ap (λ (l : List ℕ). take i o ++ map f l) (sym (drop-cons o i 0 h))
+    ∙ inv
+
+pub map-end : (f : ℕ → ℕ) (o all : List ℕ) (i : ℕ) → length o ≤ i → take i o ++ map f (drop i o) ≡ all → o ≡ all
+map-end f o all i h inv = sym (append-nil o) ∙ ap₂ (λ (x y : List ℕ). x ++ map f y) (sym (take-all i o h)) (sym (drop-of-length-le o h)) ∙ inv
+
+pub map-zeros : (l : List ℕ) → map (λ (x : ℕ). zero) l ≡ replicate (length l) 0
+map-zeros [] = refl
+map-zeros (x ∷ xs) = ap (λ (m : List ℕ). 0 ∷ m) (map-zeros xs)
