@@ -1,3 +1,4 @@
 pub mod Demands
 pub mod Loading
 pub mod Entries
+pub mod Unique

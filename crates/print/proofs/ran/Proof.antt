@@ -35,9 +35,10 @@ facts-requires c κs =
     let s = c .before .before .before .before .before .before .before .before .before .before .before .before .before in
     let p = c .before .before .before .before .before .before .before .first-line .ensures in
     let q = c .before .before .before .second-line .ensures in
-    let a = s .args in
-    (s .pre .0,
-    omega (arith, s .pre .1, p .place, puts-length p, q .place, puts-length q, first-line-short (outcomeOf (c .before .before .before .before .before .before .before .before .before .word-of .result)) (a .steps) (a .facts) (a .next), second-line-short (a .acyclic) (a .generations)))
+    let a = s .args in (
+      s .pre .0,
+      omega (arith, s .pre .1, p .place, puts-length p, q .place, puts-length q, first-line-short (outcomeOf (c .before .before .before .before .before .before .before .before .before .word-of .result)) (a .steps) (a .facts) (a .next), second-line-short (a .acyclic) (a .generations)),
+    )
 
 same-length : tie.Need-same-length
 same-length c = search needs
