@@ -1,12 +1,14 @@
--- The number of a value keeps the order of values, tells values apart, and every number is one. Assumes nothing.
-use Prim.Native.Nat.{ℕ, _-_, _<_}
+-- The number of a value keeps the order of values, tells values apart, every number is one, and an equation says of numbers what the paper
+-- says of values. Assumes nothing.
+use Prim.Native.Nat.{ℕ, _-_, _<_, min, max}
 use mathlib.Core.Path.{_≡_, refl, sym, ap}
 use mathlib.Core.Bool.{Bool, true, false}
 use native.Mathlib.Omega.{arith}
 use native.Mathlib.Decide.{decLt}
 use lib.Dec.{ltb}
 use borrow.Author.Tests.{lt-ltb, le-ltb, ltb-true, ltb-false}
-use Rattle.model.specs.Values.{Value, constant, null, precedes, blanks, blank, numberOf, IsValue}
+use Rattle.model.specs.Values.{Value, constant, null, precedes, blanks, blank, numberOf, isConstant, IsValue}
+use Rattle.model.specs.Step.{State, merge, equate}
 
 blank-order : (a b : ℕ) → ltb a b ≡ ltb (blank a) (blank b)
 blank-order a b = go (ltb a b) refl
@@ -39,3 +41,21 @@ number-all n = go (decLt n blanks)
     go : Dec (n < blanks) → (v : Value) × IsValue v × (numberOf v ≡ n)
     go (yes p) = (constant n, p, refl)
     go (no p) = (null (n - blanks), tt, omega arith)
+
+-- what an equation makes of two numbers is what the paper says of the values that they stand for
+pub equation-says : (s : State) (v w : Value) → IsValue v → IsValue w
+    → merge (isConstant (max (numberOf v) (numberOf w))) s (max (numberOf v) (numberOf w)) (min (numberOf v) (numberOf w)) ≡ equate s v w
+unfolding merge equate numberOf
+equation-says s (constant a) (constant b) p q = let t = lt-ltb (max a b) blanks (omega arith) in cc
+equation-says s (constant a) (null k) p q =
+    let m : max a (blank k) ≡ blank k = omega arith in
+    let n : min a (blank k) ≡ a = omega arith in
+    let t = le-ltb (blank k) blanks (omega arith) in cc
+equation-says s (null k) (constant a) p q =
+    let m : max (blank k) a ≡ blank k = omega arith in
+    let n : min (blank k) a ≡ a = omega arith in
+    let t = le-ltb (blank k) blanks (omega arith) in cc
+equation-says s (null j) (null k) p q =
+    let m : max (blank j) (blank k) ≡ blank (max j k) = omega arith in
+    let n : min (blank j) (blank k) ≡ blank (min j k) = omega arith in
+    let t = le-ltb (blank (max j k)) blanks (omega arith) in cc
