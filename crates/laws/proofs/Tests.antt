@@ -1,8 +1,8 @@
 -- Laws of numbers and of their tests. Assumes nothing.
 use Prim.Native.Nat.{ℕ, _+_, _-_, _≤_, _<_}
 use native.Mathlib.Omega.{arith}
-use mathlib.Core.Path.{_≡_, refl, sym}
-use mathlib.Core.Bool.{Bool, true, false}
+use mathlib.Core.Path.{_≡_, refl, sym, ap, _∙_}
+use mathlib.Core.Bool.{Bool, true, false, _||_, true≢false, or-true}
 use mathlib.Core.Logic.{_⊎_, inl, inr}
 use lib.Dec.{eqb, ltb, leb}
 use borrow.Author.Tests.{ltb-true, ltb-false, eqb-true, eqb-false, le-leb, lt-leb, leb-true, leb-false}
@@ -20,6 +20,21 @@ eq-or-ne m n = go (eqb m n) refl
     go : (t : Bool) → eqb m n ≡ t → (m ≡ n) ⊎ (m ≡ n → ⊥)
     go true e = inl (eqb-true m n e)
     go false e = inr (eqb-false m n e)
+
+-- one of two tests
+module _ (a b : Bool) where
+  pub or-first : a ≡ true → (a || b) ≡ true
+  or-first e = ap (λ t. t || b) e
+
+  pub or-last : b ≡ true → (a || b) ≡ true
+  or-last e = ap (λ t. a || t) e ∙ or-true a
+
+  pub or-skip : a ≡ false → (a || b) ≡ b
+  or-skip e = ap (λ t. t || b) e
+
+pub or-neither : (a b : Bool) → (a || b) ≡ false → (a ≡ false) × (b ≡ false)
+or-neither true b e = absurd (true≢false e)
+or-neither false b e = (refl, e)
 
 -- what is left of a limit decides whether more is within it
 module _ (used more most : ℕ) where
