@@ -12,7 +12,7 @@ use Rattle.model.specs.Facts.{fact}
 use Rattle.model.specs.Lines.{line}
 use Rattle.model.specs.Answer as paper
 use Rattle.text.specs.Puts.{Puts}
-use Rattle.text.proofs.Puts.{sets-front}
+use Rattle.laws.proofs.Stores.{sets-front}
 use Rattle.lines.specs.declared.Written.{Written}
 use Rattle.lines.specs.declared.Written.the-variants.{Refused, Wrote}
 use Rattle.lines.specs.Line.{LineContract}

@@ -12,6 +12,7 @@ pub mod Steps
 pub mod Universal
 pub mod Bounds
 pub mod Fits
+pub mod Rows
 pub mod Runs
 pub mod Pigeon
 pub mod Raise

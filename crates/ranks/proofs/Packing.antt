@@ -2,13 +2,15 @@
 use mathlib.Core.Path.{_≡_, refl, sym, ap, ap₂, _∙_, subst}
 use mathlib.Core.Logic.{⊎-elim}
 use mathlib.Core.Bool.{Bool, true, false, cond}
-use mathlib.Core.List.{List, [], _∷_, _++_, map, append-assoc, List·Memᴰ·head as here, List·Memᴰ·tail as there, List·Memᴰ·not-nil as not-in-nil, List·Memᴰ·cases-cons as cases-cons, List·Memᴰ·append-cases as append-cases, Memᴰ·of-map as from-map}
+use mathlib.Core.List.{List, [], _∷_, _++_, map, append-assoc, map-append, List·Memᴰ·head as here, List·Memᴰ·tail as there, List·Memᴰ·not-nil as not-in-nil, List·Memᴰ·cases-cons as cases-cons, List·Memᴰ·append-cases as append-cases, Memᴰ·of-map as from-map}
 use Prim.Native.Nat.{ℕ, zero, suc, _+_, _-_, _*_, _/_, _%_, _≤_, _<_}
 use native.Mathlib.Nat.{le-refl}
 use native.Mathlib.Numerals.{add-one}
 use native.Mathlib.Omega.{arith}
 use lib.ListN.{length, getD, set, take, drop, length-drop, length-map, length-append, drop-of-length-le}
 use lib.Seq.{drop-cons, drop-drop, getD-take, getD-drop, length-take-le, take-at, drop-at, sets, length-sets, sets-eq}
+use Rattle.laws.proofs.Members.{in-take, in-drop, place-of, all-most}
+use Rattle.laws.proofs.Stores.{sets-append}
 use Rattle.model.specs.Order.{_∈_}
 use Rattle.model.specs.Rules as paper
 use Rattle.model.specs.Edges.{Spot, spotsFrom, spots, fans, ruleEdges, edges}
@@ -20,7 +22,6 @@ use Rattle.rules.specs.declared.Rules.{Rules}
 use Rattle.rules.specs.Rules.{kindOf, termOf, termsAt, atoms, either, ruleOf, rulesOf, GoodKind, noTerm, lostRule, Good, GoodRules}
 use Rattle.rounds.specs.Table.{spotOf, spotsIn, table, graph, Codes, Packed}
 use Rattle.ranks.specs.Codes.{codeOf, atomCodes, Stored, pairOf, codesOf, countsOf}
-use Rattle.rounds.proofs.Lists.{in-take, in-drop, in-at, sets-append, all-most}
 use Rattle.rounds.proofs.Sweeps.{Near}
 
 -- what is left to put in, after what there is, makes the whole
@@ -103,10 +104,6 @@ module _ (ρ : Rule) (good : Good ρ) (a : ℕ) (h : a < 16) where
 
 -- the codes of atoms
 
-map-append : {A B : Type 0} (f : A → B) (l m : List A) → map f (l ++ m) ≡ map f l ++ map f m
-map-append f [] m = refl
-map-append f (x ∷ l) m = ap (λ (k : _). f x ∷ k) (map-append f l m)
-
 pub atoms-turn : (ρ : Rule) (a k i : ℕ) → i < k → map codeOf (spots (atoms ρ (a + i) (k - i))) ≡ atomCodes ρ (a + i) ++ map codeOf (spots (atoms ρ (a + (i + 1)) (k - (i + 1))))
 unfolding atoms
 atoms-turn ρ a k i lt =
@@ -152,7 +149,7 @@ module _ (ρ : Rule) (good : Good ρ) where
   good-term : (a : ℕ) → a < 16 → (t : Term) → t ∈ termsAt ρ a → GoodKind (t .kind)
   good-term a h t m =
       let i = in-drop (a * 8) (ρ .terms) (in-take (getD (ρ .lens) a 0) (drop (a * 8) (ρ .terms)) m) in
-      let w = in-at noTerm (ρ .terms) i in
+      let w = place-of noTerm (ρ .terms) i in
       let l = w .1 in
       let s = good .sized in
       subst (λ (u : Term). GoodKind (u .kind)) (w .2) (good .vars (w .0) (omega arith))
@@ -375,7 +372,7 @@ module _ (rs : Rules) (good : GoodRules rs) where
   unfolding rulesOf
   rules-fit ρ m =
       let h = from-map ruleOf (take (rs .count) (rs .list)) m in
-      let w = in-at lostRule (take (rs .count) (rs .list)) (h .1) in
+      let w = place-of lostRule (take (rs .count) (rs .list)) (h .1) in
       let l = w .1 in
       let c = good .count in
       let s = good .sized in

@@ -1,15 +1,12 @@
 -- The words that the settled numbers give are the rank words, and the loops that set words, turn by turn. Assumes nothing.
-use mathlib.Core.Path.{_≡_, refl, sym, ap, ap₂, _∙_, subst}
+use mathlib.Core.Path.{_≡_, refl, sym, ap, _∙_, subst}
 use mathlib.Core.Logic.{_⊎_, inl, inr, ⊎-elim}
 use mathlib.Core.Bool.{Bool}
-use mathlib.Core.List.{List, [], _∷_, _++_, map, append-assoc, append-nil, List·Memᴰ·not-nil as not-in-nil, List·Memᴰ·append-cases as append-cases, List·Memᴰ·head as here, List·Memᴰ·tail as there, Memᴰ·cast as cast-in}
-use Prim.Native.Nat.{ℕ, zero, suc, _+_, _-_, _≤_, _<_}
-use native.Mathlib.Nat.{le-refl}
+use mathlib.Core.List.{List, [], _∷_, map, List·Memᴰ·not-nil as not-in-nil, List·Memᴰ·append-cases as append-cases, List·Memᴰ·head as here, List·Memᴰ·tail as there, Memᴰ·cast as cast-in}
+use Prim.Native.Nat.{ℕ, _-_, _≤_, _<_}
 use native.Mathlib.Decide.{decLt}
-use native.Mathlib.Numerals.{add-one}
 use native.Mathlib.Omega.{arith}
-use lib.ListN.{length, getD, take, drop, set, replicate, length-map, drop-of-length-le}
-use lib.Seq.{drop-cons, take-suc-set, drop-set-lt, take-all}
+use lib.ListN.{length, length-map}
 use borrow.Author.Tests.{lt-ltb, le-ltb}
 use Rattle.model.specs.Order.{_∈_}
 use Rattle.model.specs.Graph.{Edge, plain, special, source, target, Infinite, Within}
@@ -83,24 +80,3 @@ module _ (g : List Edge) (within : Within 512 g) (c : ℕ) (r : List ℕ) (s : S
       words-one g (map (wordFrom c) r) (rankWords g)
       (record { long = length-map r (wordFrom c) ∙ s .long; each = λ v h. subst (IsWord g v) (sym (value-map (wordFrom c) r v (omega (arith, s .long)))) (is-word v h) })
       (words-right g within)
-
--- the loops
-
--- a store into what is mapped from the front on
-pub map-turn : (f : ℕ → ℕ) (o all n : List ℕ) (i v : ℕ) → i < length o → v ≡ f (getD o i 0) → n ≡ set o i v → take i o ++ map f (drop i o) ≡ all
-    → take (i + 1) n ++ map f (drop (i + 1) n) ≡ all
-map-turn f o all n i v h e q inv =
-    ap (λ (l : List ℕ). take (i + 1) l ++ map f (drop (i + 1) l)) q
-    ∙ ap (λ (k : ℕ). take k (set o i v) ++ map f (drop k (set o i v))) (add-one i)
-    ∙ ap₂ (λ (x y : List ℕ). x ++ map f y) (take-suc-set o i v h) (drop-set-lt (suc i) o i v (le-refl (suc i)))
-    ∙ append-assoc (take i o) (v ∷ []) (map f (drop (suc i) o))
-    ∙ ap (λ (x : ℕ). take i o ++ (x ∷ map f (drop (suc i) o))) e
-    ∙ ap (λ (l : List ℕ). take i o ++ map f l) (sym (drop-cons o i 0 h))
-    ∙ inv
-
-pub map-end : (f : ℕ → ℕ) (o all : List ℕ) (i : ℕ) → length o ≤ i → take i o ++ map f (drop i o) ≡ all → o ≡ all
-map-end f o all i h inv = sym (append-nil o) ∙ ap₂ (λ (x y : List ℕ). x ++ map f y) (sym (take-all i o h)) (sym (drop-of-length-le o h)) ∙ inv
-
-pub map-zeros : (l : List ℕ) → map (λ (x : ℕ). zero) l ≡ replicate (length l) 0
-map-zeros [] = refl
-map-zeros (x ∷ xs) = ap (λ (m : List ℕ). 0 ∷ m) (map-zeros xs)

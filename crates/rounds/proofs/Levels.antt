@@ -1,6 +1,6 @@
 -- Sweeps until nothing changes, and larger and larger numbers for 'no largest', turn by turn. Assumes nothing.
 use mathlib.Core.Path.{_≡_, refl, sym, ap, _∙_, subst}
-use mathlib.Core.Bool.{Bool, true, false}
+use mathlib.Core.Bool.{Bool, true, false, true≢false}
 use mathlib.Core.List.{List}
 use Prim.Native.Nat.{ℕ, _+_, _-_, _*_, _≤_, _<_}
 use native.Mathlib.Omega.{arith}
@@ -13,9 +13,6 @@ use Rattle.model.proofs.Raise.{Below, below-refl, below-same, below-antisym, su
 use Rattle.rounds.specs.Table.{Pair, graph}
 use Rattle.rounds.specs.Sweep.{sweep, Board, Sound, Settled, Enough}
 use Rattle.rounds.proofs.Sweeps.{Placed, sweep-below, sweep-length, sweep-capped, sweep-sound, sweep-closed}
-
-pub true-false : true ≡ false → ⊥
-true-false e = let z : _≡_ {A = ℕ} 0 1 = cc in omega arith
 
 pub zeros-board : (r : List ℕ) → r ≡ replicate 512 0 → Board 0 r
 zeros-board r e =
@@ -33,7 +30,7 @@ abbrev pub left : List ℕ → Bool → ℕ
 left r more = (262144 - sum r) + pick more 1 0
 
 pub settling-start : (ps : List Pair) (c : ℕ) (r : List ℕ) → Board c r → Sound (graph ps) r → Settling ps c r true
-settling-start ps c r b s = record { board = b; sound = s; done = λ e. absurd (true-false e) }
+settling-start ps c r b s = record { board = b; sound = s; done = λ e. absurd (true≢false e) }
 
 module _ (ps : List Pair) (placed : Placed ps) (c : ℕ) (r : List ℕ) (more : Bool) (w : Settling ps c r more) where
   module _ (m : List ℕ) (b : Bool) (e : m ≡ sweep c r ps) (f : b ≡ ltb (sum r) (sum m)) where
@@ -94,7 +91,7 @@ pub record Leveling (g : List Edge) (c : ℕ) (r : List ℕ) (more : Bool) : Typ
   pub done : more ≡ false → Settled g c r × Enough r c
 
 pub leveling-start : (g : List Edge) (r : List ℕ) → Board 0 r → Leveling g 0 r true
-leveling-start g r b = record { board = b; sound = λ v. (v, 0, stay, b .capped v); goes = λ e. omega arith; done = λ e. absurd (true-false e) }
+leveling-start g r b = record { board = b; sound = λ v. (v, 0, stay, b .capped v); goes = λ e. omega arith; done = λ e. absurd (true≢false e) }
 
 pub leveling-board : (g : List Edge) (c : ℕ) (r : List ℕ) (more : Bool) → Leveling g c r more → more ≡ true → Board (c + 1) r
 leveling-board g c r more w t =

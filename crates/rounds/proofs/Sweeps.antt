@@ -9,6 +9,7 @@ use native.Mathlib.Omega.{arith}
 use lib.Dec.{ltb}
 use lib.ListN.{length, getD, drop, take}
 use lib.Seq.{getD-drop, drop-drop}
+use Rattle.laws.proofs.Members.{in-take, in-drop}
 use Rattle.model.specs.Order.{_∈_}
 use Rattle.model.specs.Graph.{Edge}
 use Rattle.model.specs.Edges.{Spot, fans}
@@ -18,7 +19,6 @@ use Rattle.model.proofs.RankLaws.{Sound, Capped, Closed}
 use Rattle.rounds.specs.Table.{spotOf, spotsIn, Pair, table, graph, Codes, Packed}
 use Rattle.rounds.specs.Offers.{ruleRound, Ready}
 use Rattle.rounds.specs.Sweep.{sweep, Board}
-use Rattle.rounds.proofs.Lists.{in-take, in-drop}
 use Rattle.rounds.proofs.Rounds.{round-below, round-length, round-sound, round-capped, round-closed}
 
 -- variables below 16 at positions below 512

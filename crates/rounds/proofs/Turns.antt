@@ -9,11 +9,11 @@ use native.Mathlib.Omega.{arith}
 use lib.Dec.{ltb}
 use lib.ListN.{length, getD, drop, take, set, replicate, drop-of-length-le}
 use lib.Seq.{drop-cons, take-suc-set, drop-set-lt, take-all}
+use Rattle.laws.proofs.Members.{all-most}
 use Rattle.model.specs.Edges.{Spot}
 use Rattle.model.specs.Ranks.{value, raise, sum, pick}
 use Rattle.model.proofs.Raise.{kept, flag-join, length-raise, raise-below, below-sum}
 use Rattle.rounds.specs.Table.{spotOf, spotsIn, Codes}
-use Rattle.rounds.proofs.Lists.{all-most}
 use Rattle.rounds.specs.Offers.{lift, mark, pour, top, gives, ruleRound}
 
 -- a code that is read

@@ -1,24 +1,12 @@
 -- Laws of text put into a buffer: pieces one after the other, and what a contract leaves. Assumes nothing.
-use Prim.Native.Nat.{ℕ, suc, _+_, _≤_, _<_}
+use Prim.Native.Nat.{ℕ, _+_, _≤_}
 use native.Mathlib.Omega.{arith}
 use mathlib.Core.Path.{_≡_, refl, sym, ap, _∙_}
-use mathlib.Core.List.{List, [], _∷_, _++_}
-use lib.ListN.{length, length-append, drop, getD, set}
-use lib.Seq.{sets, length-sets, sets-eq, drop-cons}
+use mathlib.Core.List.{List, [], _++_}
+use lib.ListN.{length, length-append}
+use lib.Seq.{sets, length-sets}
+use Rattle.laws.proofs.Stores.{sets-append}
 use Rattle.text.specs.Puts.{Space, Puts}
-
--- stored one after the other is stored at once
-pub sets-append : (a b l : List ℕ) (i : ℕ) → sets (sets l i a) (i + length a) b ≡ sets l i (a ++ b)
-sets-append [] b l i = let e : i + 0 ≡ i = omega arith in ap (λ k. sets l k b) e
-sets-append (x ∷ a) b l i =
-    let e : i + suc (length a) ≡ suc i + length a = omega arith in
-    ap (λ k. sets (sets (set l i x) (suc i) a) k b) e ∙ sets-append a b (set l i x) (suc i)
-
--- text from the front of a buffer
-pub sets-front : (a l : List ℕ) → length a ≤ length l → sets l 0 a ≡ a ++ drop (length a) l
-sets-front a l h =
-    let e : 0 + length a ≡ length a = omega arith in
-    sets-eq a l 0 (rw e h) ∙ ap (λ k. a ++ drop k l) e
 
 module _ (a b l : List ℕ) (at : ℕ) (space : Space (a ++ b) at l) where
   -- space for two pieces is space for the first, and then for the second
@@ -37,21 +25,12 @@ pub puts-append : {a b l l′ l″ : List ℕ} {at next last : ℕ} → Puts a a
 puts-append {a} {b} {l} {l′} {l″} {at} {next} {last} p q =
     record {
       place = omega (arith, p .place, q .place, length-append a b);
-      bytes = q .bytes ∙ (ap (λ k. sets l′ k b) (p .place) ∙ (ap (λ r. sets r (at + length a) b) (p .bytes) ∙ sets-append a b l at));
+      bytes = q .bytes ∙ (ap (λ k. sets l′ k b) (p .place) ∙ (ap (λ r. sets r (at + length a) b) (p .bytes) ∙ sym (sets-append l at a b)));
     }
 
 -- what is put leaves one next place and one content
 pub puts-unique : {a l l′ l″ : List ℕ} {at next last : ℕ} → Puts a at l next l′ → Puts a at l last l″ → (next ≡ last) × (l′ ≡ l″)
 puts-unique p q = (p .place ∙ sym (q .place), p .bytes ∙ sym (q .bytes))
-
--- a turn of a loop that stores a list
-pub sets-turn : (text l : List ℕ) (at i : ℕ) → i < length text → sets l (at + i) (drop i text) ≡ sets (set l (at + i) (getD text i 0)) (at + (i + 1)) (drop (i + 1) text)
-sets-turn text l at i h =
-    let e : i + 1 ≡ suc i = omega arith in
-    let f : at + (i + 1) ≡ suc (at + i) = omega arith in
-    ap (sets l (at + i)) (drop-cons text i 0 h)
-    ∙ (ap (λ k. sets (set l (at + i) (getD text i 0)) (suc (at + i)) (drop k text)) (sym e)
-    ∙ ap (λ k. sets (set l (at + i) (getD text i 0)) k (drop (i + 1) text)) (sym f))
 
 -- no text leaves all as it is
 pub puts-none : (l : List ℕ) (at : ℕ) → Puts [] at l at l
@@ -80,7 +59,7 @@ left-more {whole} {lent} {piece} {rest} {now} {now′} {at} {next} {next′} f p
     record {
       size = puts-length p ∙ f .size;
       place = omega (arith, f .place, p .place, length-append piece rest);
-      bytes = f .bytes ∙ (sym (sets-append piece rest now next) ∙ (ap (λ r. sets r (next + length piece) rest) (sym (p .bytes)) ∙ ap (λ k. sets now′ k rest) (sym (p .place))));
+      bytes = f .bytes ∙ (sets-append now next piece rest ∙ (ap (λ r. sets r (next + length piece) rest) (sym (p .bytes)) ∙ ap (λ k. sets now′ k rest) (sym (p .place))));
     }
 
 -- nothing left: the whole is put

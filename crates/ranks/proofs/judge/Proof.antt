@@ -6,7 +6,7 @@ use Prim.Native.Nat.{ℕ}
 use lib.ListN.{drop, length-replicate}
 use lib.Seq.{length-take-le}
 use Rattle.model.specs.Ranks.{rankWords, acyclic, generations, positions}
-use Rattle.rounds.proofs.Lists.{in-zeros}
+use Rattle.laws.proofs.Zeros.{in-zeros}
 use Rattle.ranks.proofs.Packing.{packed-rules}
 use Rattle.ranks.proofs.judge.Statement.{statement}
 use Rattle.ranks.proofs.judge.Tie as tie

@@ -6,7 +6,7 @@ use mathlib.Core.Path.{_≡_, refl, sym, ap, _∙_}
 use lib.ListN.{length, length-set, drop, getD}
 use lib.Seq.{sets, drop-length}
 use denote.Ref.{now}
-use Rattle.text.proofs.Puts.{sets-turn}
+use Rattle.laws.proofs.Stores.{sets-turn}
 use Rattle.text.proofs.bytes.Statement.{statement}
 use Rattle.text.proofs.bytes.Tie as tie
 
@@ -41,7 +41,7 @@ loop-again : tie.Need-loop-again Inv-loop μ-loop
 loop-again c =
     let l = c .before .before .loop in
     let a = c .before .before .before .args in
-    (omega arith, length-set (l .lent) (a .at + l .i) (getD (now (a .text)) (l .i) 0) ∙ l .inv .1, l .inv .2 ∙ sets-turn (now (a .text)) (l .lent) (a .at) (l .i) (omega arith))
+    (omega arith, length-set (l .lent) (a .at + l .i) (getD (now (a .text)) (l .i) 0) ∙ l .inv .1, l .inv .2 ∙ sets-turn (now (a .text)) (l .lent) (a .at) (l .i) 0 (omega arith))
 
 add-result : tie.Need-add-result Inv-loop μ-loop
 add-result c = search needs

@@ -3,13 +3,13 @@ use borrow.Author.Needs.{needs}
 use native.Mathlib.Omega.{arith}
 use mathlib.Core.Path.{sym}
 use mathlib.Core.Logic.{inl, inr}
-use Rattle.rounds.proofs.Levels.{true-false}
+use mathlib.Core.Bool.{true≢false}
 use Rattle.rounds.proofs.settle.goes.Statement.{statement}
 use Rattle.rounds.proofs.settle.goes.Tie as tie
 
 returns : tie.Need-returns
 returns c =
-    (λ e. (c .before .before .pre .1, inr (omega arith)), λ e. absurd (true-false (sym e)))
+    (λ e. (c .before .before .pre .1, inr (omega arith)), λ e. absurd (true≢false (sym e)))
 
 sub-has : tie.Need-sub-has
 sub-has c = search needs

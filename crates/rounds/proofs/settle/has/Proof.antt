@@ -5,8 +5,8 @@ use mathlib.Core.Path.{_≡_}
 use Prim.Native.Nat.{ℕ, _≤_, _<_, _-_}
 use native.Mathlib.Nat.{not-suc-le-zero}
 use borrow.Author.Count.{below-more}
+use mathlib.Core.Bool.{true≢false}
 use Rattle.model.specs.Ranks.{value}
-use Rattle.rounds.proofs.Levels.{true-false}
 use Rattle.rounds.proofs.settle.has.Statement.{statement}
 use Rattle.rounds.proofs.settle.has.Tie as tie
 
@@ -30,7 +30,7 @@ shared-slice-read-if1 c = search needs
 
 returns : tie.Need-returns Inv-loop μ-loop
 returns c =
-    λ e. absurd (true-false e)
+    λ e. absurd (true≢false e)
 
 add-i : tie.Need-add-i Inv-loop μ-loop
 add-i c = search needs

@@ -5,7 +5,8 @@ use mathlib.Core.Path.{_≡_, refl, sym, ap, _∙_}
 use mathlib.Core.List.{_++_, map}
 use Prim.Native.Nat.{ℕ, _≤_, _-_}
 use lib.ListN.{length, take, drop, replicate, length-set}
-use Rattle.rounds.proofs.Answers.{map-turn, map-end, map-zeros}
+use Rattle.laws.proofs.Maps.{map-turn, map-end}
+use Rattle.laws.proofs.Zeros.{map-zeros}
 use Rattle.rounds.proofs.words.cleared.Statement.{statement}
 use Rattle.rounds.proofs.words.cleared.Tie as tie
 

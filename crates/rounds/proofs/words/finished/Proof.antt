@@ -6,7 +6,7 @@ use mathlib.Core.List.{_++_, map}
 use Prim.Native.Nat.{_≤_, _-_}
 use lib.ListN.{length, take, drop, length-set}
 use Rattle.rounds.specs.Sweep.{wordFrom}
-use Rattle.rounds.proofs.Answers.{map-turn, map-end}
+use Rattle.laws.proofs.Maps.{map-turn, map-end}
 use Rattle.rounds.proofs.words.finished.Statement.{statement}
 use Rattle.rounds.proofs.words.finished.Tie as tie
 
