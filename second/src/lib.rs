@@ -2,16 +2,19 @@
 //!
 //! A job is read ([`job`]), its rules are chased over the ordered instance
 //! ([`chase`]), the dependency graph gives verdict and ranks ([`ranks`]),
-//! and the answer is printed as a listing ([`listing`]).
+//! and the answer is printed as a listing ([`listing`](mod@listing)) or written
+//! into lent slices ([`lent`]).
 
 pub mod chase;
 pub mod check;
 pub mod instance;
 pub mod job;
+pub mod lent;
 pub mod listing;
 pub mod matching;
 pub mod random;
 pub mod ranks;
+pub mod rounds;
 pub mod rules;
 pub mod shuffle;
 pub mod text;

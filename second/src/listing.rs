@@ -56,7 +56,8 @@ fn verdict_line(ranks: &Ranks) -> String {
     format!("{word} {}\n", ranks.generations)
 }
 
-fn fact_line(fact: &Fact, arity: u8) -> String {
+/// Relation, values, line feed.
+pub fn fact_line(fact: &Fact, arity: u8) -> String {
     let mut line = fact.relation.to_string();
     for value in &fact.values[..usize::from(arity)] {
         line += " ";

@@ -43,12 +43,13 @@ impl Random {
     }
 }
 
-/// The three kinds of random jobs.
+/// The kinds of random jobs.
 #[derive(Clone, Copy, Debug, PartialEq, Eq)]
 pub enum Kind {
     Valid,
     Damaged,
     Rules,
+    Large,
 }
 
 impl Kind {
@@ -57,6 +58,7 @@ impl Kind {
             "valid" => Some(Kind::Valid),
             "damaged" => Some(Kind::Damaged),
             "rules" => Some(Kind::Rules),
+            "large" => Some(Kind::Large),
             _ => None,
         }
     }
@@ -69,6 +71,7 @@ pub fn job(kind: Kind, seed: u64, index: u64) -> Vec<u8> {
     match kind {
         Kind::Valid => bytes(&valid_text(&mut random)),
         Kind::Rules => bytes(&rules_text(&mut random)),
+        Kind::Large => bytes(&large_text(&mut random)),
         Kind::Damaged => damaged(&mut random),
     }
 }
@@ -146,6 +149,32 @@ fn rules_text(random: &mut Random) -> String {
         text += &rule(random, &shape, 10);
     }
     for _ in 0..random.below(4) {
+        text += &fact(random, &shape);
+    }
+    text
+}
+
+/// Up to all the facts that a job may have, over up to all relations, for runs
+/// of some dozen steps. Bodies are one atom, so that a step stays short, or a key.
+fn large_text(random: &mut Random) -> String {
+    let relations = [2, 3, 5, 64][random.below(4)];
+    let most = [2, 3, 8][random.below(3)];
+    let shape = Shape {
+        arities: arities(random, relations, most),
+        constants: random.between(20, 2000),
+        most_atoms: 1,
+        ahead: 80,
+    };
+    let mut text = heading(&shape, random.below(40));
+    for _ in 0..random.between(1, 4) {
+        text += &rule(random, &shape, 25);
+    }
+    let facts = if random.chance(50) {
+        random.between(1000, 1024)
+    } else {
+        random.between(100, 1000)
+    };
+    for _ in 0..facts {
         text += &fact(random, &shape);
     }
     text
@@ -289,7 +318,7 @@ mod tests {
     #[test]
     fn valid_jobs_are_accepted() {
         for index in 0..500 {
-            for kind in [Kind::Valid, Kind::Rules] {
+            for kind in [Kind::Valid, Kind::Rules, Kind::Large] {
                 assert!(crate::read(&job(kind, 7, index)).is_ok());
             }
         }
