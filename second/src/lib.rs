@@ -14,6 +14,7 @@ pub mod random;
 pub mod ranks;
 pub mod rules;
 pub mod shuffle;
+pub mod storage;
 pub mod text;
 
 pub use chase::{chase, Outcome, Run};
