@@ -17,6 +17,7 @@ pub mod ranks;
 pub mod rounds;
 pub mod rules;
 pub mod shuffle;
+pub mod storage;
 pub mod text;
 
 pub use chase::{chase, Outcome, Run};

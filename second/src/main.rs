@@ -7,11 +7,12 @@ use std::path::Path;
 use std::process::ExitCode;
 
 use second::random::{self, Kind};
-use second::{check, job, shuffle, text, Mode};
+use second::{check, job, shuffle, storage, text, Mode};
 
 const HELP: &str = "\
 second listing [--plain]             a job on standard input: its listing
 second ranks                         a job on standard input: verdict and ranks
+second storage                       a job on standard input: what its run leaves in the lent words
 second check DIR                     compare the vectors below DIR
 second make                          a text on standard input: the job's bytes
 second text                          a job on standard input: its text
@@ -43,6 +44,7 @@ fn command(words: &[&str]) -> Answer {
         ["listing"] => print(&second::listing(&job_input()?, Mode::Narrowed)),
         ["listing", "--plain"] => print(&second::listing(&job_input()?, Mode::Plain)),
         ["ranks"] => print(&second::ranks_listing(&job_input()?)),
+        ["storage"] => print(storage::of_bytes(&job_input()?).as_bytes()),
         ["check", folder] => check_vectors(Path::new(folder)),
         ["make"] => print(&text::make(&text_input()?)?),
         ["text"] => job_text(&job_input()?),

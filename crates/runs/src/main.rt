@@ -1,13 +1,28 @@
-// The listing of each stored job that an argument names, one after the other, each behind a line with the name.
+// Every stored job through the engine and the line writer: behind a line with its name what the listing prints, and for the jobs of some
+// folders what the run leaves in the lent storage.
+mod listed;
+mod storage;
+
 use libc::STDOUT_FILENO;
 
-// The listing of a job that is open for reading; whether it was written whole.
-fn list(fd: i32) -> bool {
-    let mut job = io::large_buffer();
-    let n = io::read_full(fd, &mut job);
-    let mut out = [0u8; 102400];
-    let k = print::print(&job[..n], &mut out);
-    io::write_all(STDOUT_FILENO, &out[..k])
+// Whether the name starts with the word.
+fn starts(name: &[u8], word: &[u8]) -> bool {
+    if name.len() < word.len() {
+        return false;
+    }
+    let mut i = 0;
+    while i < word.len() {
+        if name[i] != word[i] {
+            return false;
+        }
+        i += 1;
+    }
+    true
+}
+
+// Whether the storage is printed too.
+fn stored(name: &[u8]) -> bool {
+    starts(name, b"paper/") || starts(name, b"largest/")
 }
 
 // The job that argument i names; whether to go on.
@@ -23,11 +38,12 @@ fn run(i: usize) -> bool {
         os::fail(&name[..n]);
         return false;
     }
+    let mut job = io::large_buffer();
+    let k = io::read_full(fd, &mut job);
+    libc::close(fd);
     let named = io::write_all(STDOUT_FILENO, &name[..n]);
     let ended = io::write_all(STDOUT_FILENO, b"\n");
-    let listed = list(fd);
-    libc::close(fd);
-    named && ended && listed
+    named && ended && listed::list(&job[..k], stored(&name[..n]))
 }
 
 fn main() {
