@@ -5,3 +5,4 @@ pub mod Maps
 pub mod Stores
 pub mod Parts
 pub mod Zeros
+pub mod Pigeon

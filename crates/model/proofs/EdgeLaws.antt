@@ -1,7 +1,7 @@
 -- The edges that are computed are the edges as published. Assumes nothing.
 use mathlib.Core.Path.{_≡_, refl, sym, ap, ap₂, _∙_, subst}
 use mathlib.Core.Logic.{_⊎_, inl, inr, _↔_}
-use mathlib.Core.Bool.{Bool, true, false, _||_, not}
+use mathlib.Core.Bool.{Bool, true, false, _||_, not, or-true}
 use mathlib.Core.Option.{none, some}
 use mathlib.Core.List.{List, [], _∷_, _++_, List·Memᴰ·head as here, List·Memᴰ·tail as there, List·Memᴰ·cases-cons as cases-cons, List·Memᴰ·not-nil as not-in-nil, Memᴰ·cast as cast-in, Memᴰ·append-left as in-left, Memᴰ·append-right as in-right, List·Memᴰ·append-cases as append-cases, List·Memᴰ·eq-of-singleton as the-only}
 use Prim.Native.Nat.{ℕ, zero, suc, _+_, _*_}
@@ -75,10 +75,6 @@ pub somewhere-occurs : (x p : ℕ) (ss : List Spot) → spot x p ∈ ss → occu
 somewhere-occurs x p [] m = absurd (not-in-nil m)
 somewhere-occurs x p (s ∷ ss) m = go (λ m′. somewhere-occurs x p ss m′) (cases-cons m)
   where
-    or-true : (b : Bool) → (b || true) ≡ true
-    or-true true = refl
-    or-true false = refl
-
     go : (spot x p ∈ ss → occurs x ss ≡ true) → (spot x p ≡ s) ⊎ (spot x p ∈ ss) → (eqb x (s .name) || occurs x ss) ≡ true
     go f (inl e) = ap (λ (b : Bool). b || occurs x ss) (eq-eqb x (s .name) (ap (λ (t : Spot). t .name) e))
     go f (inr m′) = ap (λ (b : Bool). eqb x (s .name) || b) (f m′) ∙ or-true (eqb x (s .name))

@@ -14,7 +14,6 @@ pub mod Bounds
 pub mod Fits
 pub mod Rows
 pub mod Runs
-pub mod Pigeon
 pub mod Raise
 pub mod RankLaws
 pub mod EdgeLaws

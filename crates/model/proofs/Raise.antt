@@ -9,7 +9,7 @@ use native.Mathlib.Omega.{arith}
 use lib.Dec.{ltb}
 use borrow.Author.Tests.{ltb-true, ltb-false, lt-ltb, le-ltb}
 use mathlib.Core.Bool.{Bool, true, false, _||_, and-eq-true-iff}
-use lib.ListN.{length, set, replicate}
+use lib.ListN.{length, set}
 use Rattle.model.specs.Ranks.{value, raise, sum, allBelow}
 
 pub max-is : (x y : ℕ) → (max x y ≡ x) ⊎ (max x y ≡ y)
@@ -105,11 +105,6 @@ pub raise-none : (r : List ℕ) (b x : ℕ) → x ≤ value r b → r ≡ raise 
 raise-none [] b x h = refl
 raise-none (y ∷ ys) zero x h = let e : y ≡ max y x = omega arith in ap (λ (z : ℕ). z ∷ ys) e
 raise-none (y ∷ ys) (suc b) x h = ap (λ (l : List ℕ). y ∷ l) (raise-none ys b x h)
-
-pub value-zeros : (n v : ℕ) → value (replicate n 0) v ≡ 0
-value-zeros zero v = refl
-value-zeros (suc n) zero = refl
-value-zeros (suc n) (suc v) = value-zeros n v
 
 -- a raise that is one makes the sum larger
 pub raise-sum : (r : List ℕ) (b x : ℕ) → b < length r → value r b < x → sum r < sum (raise r b x)

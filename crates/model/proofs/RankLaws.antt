@@ -10,10 +10,12 @@ use native.Mathlib.Omega.{arith}
 use lib.Dec.{ltb}
 use borrow.Author.Tests.{ltb-false, ltb-true}
 use lib.ListN.{length, replicate, length-replicate}
+use Rattle.laws.proofs.Zeros.{zeros-at}
+use Rattle.laws.proofs.Members.{in-at}
+use Rattle.laws.proofs.Pigeon.{cut, cut-length, cut-mem, gap, upto, upto-mem}
 use Rattle.model.specs.Graph.{Edge, plain, special, source, target, Path, stay, along, across, WeaklyAcyclic, IsRank, Reaches, Infinite, Within}
 use Rattle.model.specs.Ranks.{value, offer, relax, round, sum, settle, ranks, allBelow, acyclic}
-use Rattle.model.proofs.Pigeon.{cut, cut-length, cut-mem, gap, value-mem, upto, upto-mem}
-use Rattle.model.proofs.Raise.{raise-cases, raise-at, length-raise, Below, below-refl, below-trans, below-antisym, below-value, below-same, raise-below, sum-bound, value-zeros, below-all, all-below}
+use Rattle.model.proofs.Raise.{raise-cases, raise-at, length-raise, Below, below-refl, below-trans, below-antisym, below-value, below-same, raise-below, sum-bound, below-all, all-below}
 use Rattle.model.specs.Order.{_∈_}
 
 -- what holds of the numbers all the way
@@ -162,8 +164,8 @@ settle-still c g (suc f) r w h = go (λ l. settle-still c g f (round c r g) (rou
 
 start-good : (n : ℕ) (g : List Edge) → Good n g (replicate n 0)
 start-good n g = record {
-  sound = λ v. (v, 0, stay, let e = value-zeros n v in omega arith);
-  capped = λ v. let e = value-zeros n v in omega arith;
+  sound = λ v. (v, 0, stay, let e = zeros-at n v in omega arith);
+  capped = λ v. let e = zeros-at n v in omega arith;
   long = length-replicate n 0;
 }
 
@@ -189,7 +191,7 @@ module _ (n : ℕ) (g : List Edge) (within : Within n g) where
       k = gap r
 
       free : (w : ℕ) → w < n → value r w ≡ k .0 → ⊥
-      free w l e = k .2 (cast-in (sym e) (value-mem r w (let q = ranks-good .long in omega arith)))
+      free w l e = k .2 (cast-in (sym e) (in-at r w 0 (let q = ranks-good .long in omega arith)))
 
       go : Dec (value r v < n) → ((value r v < n) × IsRank g v (value r v)) ⊎ ((value r v ≡ n) × Infinite g v)
       go (yes l) = inl (l, finite n g r ranks-closed (ranks-good .sound) v l)
@@ -273,7 +275,7 @@ module _ (n : ℕ) (g : List Edge) (within : Within n g) where
       k = gap r
 
       free : (w : ℕ) → w < n → value r w ≡ k .0 → ⊥
-      free w l e = k .2 (cast-in (sym e) (value-mem r w (omega (arith, len))))
+      free w l e = k .2 (cast-in (sym e) (in-at r w 0 (omega (arith, len))))
 
   -- weakly acyclic: no position is infinite
   pub acyclic-iff : WeaklyAcyclic g ↔ ((v : ℕ) → v < n → Infinite g v → ⊥)

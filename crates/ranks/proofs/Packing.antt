@@ -7,7 +7,7 @@ use Prim.Native.Nat.{ℕ, zero, suc, _+_, _-_, _*_, _/_, _%_, _≤_, _<_}
 use native.Mathlib.Nat.{le-refl}
 use native.Mathlib.Numerals.{add-one}
 use native.Mathlib.Omega.{arith}
-use lib.ListN.{length, getD, set, take, drop, length-drop, length-map, length-append, drop-of-length-le}
+use lib.ListN.{length, getD, set, take, drop, length-map, length-append, drop-of-length-le}
 use lib.Seq.{drop-cons, drop-drop, getD-take, getD-drop, length-take-le, take-at, drop-at, sets, length-sets, sets-eq}
 use Rattle.laws.proofs.Members.{in-take, in-drop, place-of, all-most}
 use Rattle.laws.proofs.Stores.{sets-append}
@@ -20,6 +20,7 @@ use Rattle.rules.specs.declared.Term.{Term}
 use Rattle.rules.specs.declared.Rule.{Rule}
 use Rattle.rules.specs.declared.Rules.{Rules}
 use Rattle.rules.specs.Rules.{kindOf, termOf, termsAt, atoms, either, ruleOf, rulesOf, GoodKind, noTerm, lostRule, Good, GoodRules}
+use Rattle.rules.proofs.Atoms.{terms-length}
 use Rattle.rounds.specs.Table.{spotOf, spotsIn, table, graph, Codes, Packed}
 use Rattle.ranks.specs.Codes.{codeOf, atomCodes, Stored, pairOf, codesOf, countsOf}
 use Rattle.rounds.proofs.Sweeps.{Near}
@@ -80,16 +81,12 @@ term-few q (paper.var x) = le-refl 1
 term-few q (paper.con c) = omega arith
 
 module _ (ρ : Rule) (good : Good ρ) (a : ℕ) (h : a < 16) where
-  pub terms-long : length (termsAt ρ a) ≡ getD (ρ .lens) a 0
-  terms-long =
-      length-take-le (getD (ρ .lens) a 0) (drop (a * 8) (ρ .terms)) (let e = length-drop (a * 8) (ρ .terms) in let l = good .sized in let k = good .lens a h in omega arith)
-
   -- the term that a turn puts in
   pub atom-turn : (p q : ℕ) → p < getD (ρ .lens) a 0
       → map codeOf (spotsFrom q (map termOf (drop p (termsAt ρ a))))
       ≡ map codeOf (spotsFrom q (kindOf (getD (ρ .terms) (a * 8 + p) noTerm .kind) ∷ [])) ++ map codeOf (spotsFrom (q + 1) (map termOf (drop (p + 1) (termsAt ρ a))))
   atom-turn p q lt =
-      let len = terms-long in
+      let len = terms-length ρ good a h in
       let at : getD (termsAt ρ a) p noTerm ≡ getD (ρ .terms) (a * 8 + p) noTerm = getD-take (getD (ρ .lens) a 0) (drop (a * 8) (ρ .terms)) p noTerm lt ∙ getD-drop (a * 8) (ρ .terms) p noTerm in
       ap (λ (l : List Term). map codeOf (spotsFrom q (map termOf l))) (drop-cons (termsAt ρ a) p noTerm (omega arith))
       ∙ ap (λ (t : Term). map codeOf (spotsFrom q (termOf t ∷ map termOf (drop (suc p) (termsAt ρ a))))) at
@@ -98,7 +95,7 @@ module _ (ρ : Rule) (good : Good ρ) (a : ℕ) (h : a < 16) where
 
   pub atom-over : (p q : ℕ) → getD (ρ .lens) a 0 ≤ p → map codeOf (spotsFrom q (map termOf (drop p (termsAt ρ a)))) ≡ []
   atom-over p q ge =
-      let len = terms-long in
+      let len = terms-length ρ good a h in
       let k : length (termsAt ρ a) ≤ p = omega arith in
       ap (λ (l : List Term). map codeOf (spotsFrom q (map termOf l))) (drop-of-length-le (termsAt ρ a) k)
 
@@ -139,7 +136,7 @@ from-near q (t ∷ ts) h l s m = go (t .kind) (h t (here refl)) m (from-near (su
 module _ (ρ : Rule) (good : Good ρ) where
   pub atom-few : (a : ℕ) → a < 16 → length (atomCodes ρ a) ≤ 8
   atom-few a h =
-      let len = terms-long ρ good a h in
+      let len = terms-length ρ good a h in
       let k = good .lens a h in
       let e = length-map (spotsFrom (8 * getD (ρ .rels) a 0) (map termOf (termsAt ρ a))) codeOf in
       let f = from-few (8 * getD (ρ .rels) a 0) (map termOf (termsAt ρ a)) in
@@ -159,7 +156,7 @@ module _ (ρ : Rule) (good : Good ρ) where
   atoms-near zero a h s m = absurd (not-in-nil m)
   atoms-near (suc k) a h s m =
       let l : a < 16 = omega arith in
-      let len = terms-long ρ good a l in
+      let len = terms-length ρ good a l in
       let c = good .lens a l in
       let r = good .rels a l in
       ⊎-elim (λ i. from-near (8 * getD (ρ .rels) a 0) (termsAt ρ a) (good-term a l) (omega arith) s i) (λ i. atoms-near k (suc a) (omega arith) s i)

@@ -8,11 +8,12 @@ use native.Mathlib.Decide.{decLt}
 use native.Mathlib.Omega.{arith}
 use lib.ListN.{length, length-map}
 use borrow.Author.Tests.{lt-ltb, le-ltb}
+use Rattle.laws.proofs.Members.{in-at}
+use Rattle.laws.proofs.Pigeon.{gap}
 use Rattle.model.specs.Order.{_∈_}
 use Rattle.model.specs.Graph.{Edge, plain, special, source, target, Infinite, Within}
 use Rattle.model.specs.Edges.{Spot, fans}
 use Rattle.model.specs.Ranks.{value, pick, rankWords}
-use Rattle.model.proofs.Pigeon.{gap, value-mem}
 use Rattle.model.proofs.RankLaws.{finite, endless}
 use Rattle.model.proofs.EdgeLaws.{fans-edge}
 use Rattle.model.proofs.Published.{IsWord, words-one, words-right, value-map}
@@ -52,7 +53,7 @@ module _ (g : List Edge) (within : Within 512 g) (c : ℕ) (r : List ℕ) (s : S
           p = gap r
 
           none : Free r (p .0)
-          none w x q = p .2 (cast-in (sym q) (value-mem r w (omega (arith, s .long))))
+          none w x q = p .2 (cast-in (sym q) (in-at r w 0 (omega (arith, s .long))))
 
           lt : p .0 < value r v
           lt = let n = none v h in omega (arith, p .1, s .long)

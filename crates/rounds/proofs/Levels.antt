@@ -7,16 +7,17 @@ use native.Mathlib.Omega.{arith}
 use lib.Dec.{ltb}
 use lib.ListN.{length, replicate, length-replicate}
 use borrow.Author.Tests.{ltb-true, ltb-false}
+use Rattle.laws.proofs.Zeros.{zeros-at}
 use Rattle.model.specs.Graph.{Edge, stay}
 use Rattle.model.specs.Ranks.{value, sum, pick}
-use Rattle.model.proofs.Raise.{Below, below-refl, below-same, below-antisym, sum-bound, value-zeros}
+use Rattle.model.proofs.Raise.{Below, below-refl, below-same, below-antisym, sum-bound}
 use Rattle.rounds.specs.Table.{Pair, graph}
 use Rattle.rounds.specs.Sweep.{sweep, Board, Sound, Settled, Enough}
 use Rattle.rounds.proofs.Sweeps.{Placed, sweep-below, sweep-length, sweep-capped, sweep-sound, sweep-closed}
 
 pub zeros-board : (r : List ℕ) → r ≡ replicate 512 0 → Board 0 r
 zeros-board r e =
-    subst (Board 0) (sym e) (record { cap = omega arith; long = length-replicate {A = ℕ} 512 0; capped = λ v. let z = value-zeros 512 v in omega arith })
+    subst (Board 0) (sym e) (record { cap = omega arith; long = length-replicate {A = ℕ} 512 0; capped = λ v. let z = zeros-at 512 v in omega arith })
 
 -- sweeps until nothing changes
 

@@ -9,11 +9,12 @@ use native.Mathlib.Omega.{arith}
 use lib.Dec.{ltb}
 use borrow.Author.Tests.{ltb-true, lt-ltb, le-ltb}
 use lib.ListN.{length, replicate}
+use Rattle.laws.proofs.Zeros.{zeros-at}
 use Rattle.model.specs.Order.{_∈_}
 use Rattle.model.specs.Graph.{Edge, plain, special, target, stay, along, across, Reaches}
 use Rattle.model.specs.Edges.{Spot, occurs, fans}
 use Rattle.model.specs.Ranks.{value, raise, offer, pick}
-use Rattle.model.proofs.Raise.{max-is, raise-cases, raise-at, length-raise, Below, below-refl, below-trans, below-antisym, below-value, raise-below, value-zeros}
+use Rattle.model.proofs.Raise.{max-is, raise-cases, raise-at, length-raise, Below, below-refl, below-trans, below-antisym, below-value, raise-below}
 use Rattle.model.proofs.RankLaws.{Sound, Capped, Closed}
 use Rattle.model.proofs.EdgeLaws.{spot, occurs-somewhere, somewhere-occurs, FansEdge, fans-edge, edge-fans}
 use Rattle.rounds.specs.Offers.{lift, mark, top, gives, pour, offers, ruleRound}
@@ -165,7 +166,7 @@ module _ (c : ℕ) (r : List ℕ) (body head : List Spot) (small-b : Small body)
   -- what stands in `best`: 0, or one more than the rank at a place of the variable
   best-is : (x : ℕ) → (value best x ≡ 0) ⊎ ((s : Spot) × (s ∈ body) × (s .name ≡ x) × (value best x ≡ suc (value r (s .at))))
   unfolding best
-  best-is x = ⊎-elim (λ e. inl (e ∙ value-zeros 16 x)) (λ h. inr h) (lift-cases (replicate 16 0) r body x)
+  best-is x = ⊎-elim (λ e. inl (e ∙ zeros-at 16 x)) (λ h. inr h) (lift-cases (replicate 16 0) r body x)
 
   best-at : (s : Spot) → s ∈ body → suc (value r (s .at)) ≤ value best (s .name)
   unfolding best
@@ -174,7 +175,7 @@ module _ (c : ℕ) (r : List ℕ) (body head : List Spot) (small-b : Small body)
   held-is : (x : ℕ) → 0 < value held x → (s : Spot) × (s ∈ head) × (s .name ≡ x)
   unfolding held
   held-is x h =
-      ⊎-elim (λ e. absurd (let k = ap (λ (l : List ℕ). value l x) (mark-lift (replicate 16 0) head) in let z = value-zeros 16 x in omega arith))
+      ⊎-elim (λ e. absurd (let k = ap (λ (l : List ℕ). value l x) (mark-lift (replicate 16 0) head) in let z = zeros-at 16 x in omega arith))
       (λ p. (p .0, p .1, p .2)) (lift-cases (replicate 16 0) [] head x)
 
   held-at : (s : Spot) → s ∈ head → 0 < value held (s .name)
