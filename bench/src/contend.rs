@@ -9,6 +9,10 @@ pub enum Asked {
     Verdict,
 }
 
+impl Asked {
+    pub const ALL: [Asked; 2] = [Asked::Run, Asked::Verdict];
+}
+
 /// A program, with the way it goes. For a run the second program searches with
 /// the same narrowing or tries every fact; for a verdict it takes the same
 /// rounds or closes the graph.

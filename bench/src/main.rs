@@ -22,7 +22,7 @@ fn main() -> ExitCode {
     let done = match *words {
         [] => table::print(false),
         ["--instructions"] => table::print(true),
-        [measure::CALLS, row, way, count] => measure::calls(row, way, count),
+        [measure::CALLS, asked, way, count] => measure::calls(asked, way, count),
         _ => Err(USAGE.to_string()),
     };
     match done {

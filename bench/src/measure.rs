@@ -1,10 +1,11 @@
 //! The least processor time of a call, and its instructions.
 
 use std::env;
-use std::process::Command;
+use std::io::{self, Read, Write};
+use std::process::{Command, Stdio};
 
-use crate::contend::{call, Lent, Way};
-use crate::jobs::{families, Row};
+use crate::contend::{call, Asked, Lent, Way};
+use crate::jobs::Row;
 
 /// Seconds of one pass over a way's calls. A call that takes longer is made once.
 const PASS: f64 = 0.1;
@@ -90,35 +91,46 @@ pub fn instructions(row: &Row, way: Way) -> Result<f64, String> {
 }
 
 fn counted(row: &Row, way: Way, count: usize) -> Result<f64, String> {
-    let bench = env::current_exe().map_err(|fault| fault.to_string())?;
-    let output = Command::new("valgrind")
-        .args([
-            "--tool=cachegrind",
-            "--cache-sim=no",
-            "--cachegrind-out-file=/dev/null",
-        ])
-        .arg(bench)
-        .args([CALLS, &row.name, &format!("{way:?}"), &count.to_string()])
-        .output()
-        .map_err(|fault| format!("valgrind: {fault}"))?;
-    let told = String::from_utf8_lossy(&output.stderr);
+    let told = under_valgrind(row, way, count).map_err(|fault| format!("valgrind: {fault}"))?;
     let line = told.lines().find(|line| line.contains("refs:"));
     let number = line.and_then(|line| line.split_whitespace().last());
     let number = number.and_then(|word| word.replace(',', "").parse().ok());
     number.ok_or(format!("valgrind told no instructions:\n{told}"))
 }
 
-/// Makes the named row's job and does it so many times one way.
-pub fn calls(row: &str, way: &str, count: &str) -> Result<(), String> {
-    let rows = families().into_iter().flatten();
-    let row = rows.into_iter().find(|each| each.name == row);
+/// What valgrind says of this program doing the row's job so many times.
+fn under_valgrind(row: &Row, way: Way, count: usize) -> io::Result<String> {
+    let mut valgrind = Command::new("valgrind")
+        .args(["--tool=cachegrind", "--cache-sim=no"])
+        .arg("--cachegrind-out-file=/dev/null")
+        .arg(env::current_exe()?)
+        .args([CALLS, &format!("{:?}", row.asked), &format!("{way:?}")])
+        .arg(count.to_string())
+        .stdin(Stdio::piped())
+        .stderr(Stdio::piped())
+        .spawn()?;
+    if let Some(mut input) = valgrind.stdin.take() {
+        input.write_all(&row.job)?;
+    }
+    let output = valgrind.wait_with_output()?;
+    Ok(String::from_utf8_lossy(&output.stderr).into_owned())
+}
+
+/// Does the job on standard input so many times one way.
+pub fn calls(asked: &str, way: &str, count: &str) -> Result<(), String> {
+    let asked = Asked::ALL
+        .into_iter()
+        .find(|each| format!("{each:?}") == asked);
     let way = Way::ALL.into_iter().find(|each| format!("{each:?}") == way);
-    let (Some(row), Some(way), Ok(count)) = (row, way, count.parse::<usize>()) else {
-        return Err("no such row, way or count".to_string());
+    let (Some(asked), Some(way), Ok(count)) = (asked, way, count.parse::<usize>()) else {
+        return Err("no such call".to_string());
     };
+    let mut job = Vec::new();
+    let read = io::stdin().read_to_end(&mut job);
+    read.map_err(|fault| fault.to_string())?;
     let mut lent = Lent::new();
     for _ in 0..count {
-        call(way, row.asked, &row.job, &mut lent);
+        call(way, asked, &job, &mut lent);
     }
     Ok(())
 }

@@ -9,7 +9,7 @@ const COUNTED: f64 = 0.2;
 
 /// Prints all rows, those of runs before those of verdicts.
 pub fn print(counting: bool) -> Result<(), String> {
-    for asked in [Asked::Run, Asked::Verdict] {
+    for asked in Asked::ALL {
         head(asked, counting);
         for family in families() {
             if family.iter().all(|row| row.asked == asked) {
