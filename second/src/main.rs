@@ -16,7 +16,7 @@ second storage                       a job on standard input: what its run leave
 second check DIR                     compare the vectors below DIR
 second make                          a text on standard input: the job's bytes
 second text                          a job on standard input: its text
-second random KIND SEED COUNT DIR    write random jobs (valid, damaged, rules, large)
+second random KIND SEED COUNT DIR    write random jobs (see the README)
 second shuffle SEED COUNT FILE       try other orders of a job's facts and rules
 second help                          this help
 ";
@@ -50,7 +50,7 @@ fn command(words: &[&str]) -> Answer {
         ["text"] => job_text(&job_input()?),
         ["random", kind, seed, count, folder] => {
             let kind =
-                Kind::of_word(kind).ok_or("the kinds are valid, damaged, rules and large")?;
+                Kind::of_word(kind).ok_or("the kinds are valid, damaged, rules, wide and large")?;
             write_random(kind, number(seed)?, number(count)?, Path::new(folder))
         }
         ["shuffle", seed, count, file] => {

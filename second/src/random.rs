@@ -49,6 +49,7 @@ pub enum Kind {
     Valid,
     Damaged,
     Rules,
+    Wide,
     Large,
 }
 
@@ -58,6 +59,7 @@ impl Kind {
             "valid" => Some(Kind::Valid),
             "damaged" => Some(Kind::Damaged),
             "rules" => Some(Kind::Rules),
+            "wide" => Some(Kind::Wide),
             "large" => Some(Kind::Large),
             _ => None,
         }
@@ -71,6 +73,7 @@ pub fn job(kind: Kind, seed: u64, index: u64) -> Vec<u8> {
     match kind {
         Kind::Valid => bytes(&valid_text(&mut random)),
         Kind::Rules => bytes(&rules_text(&mut random)),
+        Kind::Wide => bytes(&wide_text(&mut random)),
         Kind::Large => bytes(&large_text(&mut random)),
         Kind::Damaged => damaged(&mut random),
     }
@@ -152,6 +155,62 @@ fn rules_text(random: &mut Random) -> String {
         text += &fact(random, &shape);
     }
     text
+}
+
+/// Rules of up to eight atoms on either side and up to eight places, over a few
+/// facts. Each atom starts with a term that is known, mostly, and where the body
+/// is long the head and the budget are short: the matches stay few.
+fn wide_text(random: &mut Random) -> String {
+    let most = [2, 3, 8][random.below(3)];
+    let relations = random.between(1, 3);
+    let shape = Shape {
+        arities: arities(random, relations, most),
+        constants: random.between(2, 3),
+        most_atoms: 8,
+        ahead: 50,
+    };
+    let mut text = heading(&shape, random.between(0, 3));
+    for _ in 0..random.between(1, 3) {
+        text += &wide_rule(random, &shape);
+    }
+    for _ in 0..random.between(1, 8) {
+        text += &fact(random, &shape);
+    }
+    text
+}
+
+fn wide_rule(random: &mut Random, shape: &Shape) -> String {
+    let mut variables = 0;
+    let in_body = random.between(1, shape.most_atoms);
+    let body = wide_atoms(random, shape, in_body, 50, &mut variables);
+    if variables > 0 && random.chance(30) {
+        let (left, right) = (random.below(variables), random.below(variables));
+        return format!("{body} -> x{left} = x{right}.\n");
+    }
+    let in_head = random.between(1, if in_body > 3 { 2 } else { shape.most_atoms });
+    let head = wide_atoms(random, shape, in_head, 25, &mut variables);
+    format!("{body} -> {head}.\n")
+}
+
+/// Atoms whose first term is a variable that the rule has already, mostly.
+fn wide_atoms(
+    random: &mut Random,
+    shape: &Shape,
+    count: usize,
+    fresh: usize,
+    variables: &mut usize,
+) -> String {
+    let mut atoms = Vec::new();
+    for _ in 0..count {
+        let relation = random.below(shape.arities.len());
+        let fresh_first = if random.chance(90) { 0 } else { fresh };
+        let mut terms = vec![term(random, shape, fresh_first, variables)];
+        for _ in 1..shape.arities[relation] {
+            terms.push(term(random, shape, fresh, variables));
+        }
+        atoms.push(format!("r{relation}({})", terms.join(",")));
+    }
+    atoms.join(", ")
 }
 
 /// Up to all the facts that a job may have, over up to all relations, for runs
@@ -243,8 +302,7 @@ fn equation(random: &mut Random, shape: &Shape) -> String {
     format!("{} -> x{left} = x{right}.\n", body.join(", "))
 }
 
-/// An atom whose terms are new variables in `fresh` of a hundred cases, a few
-/// constants, and otherwise variables that the rule has already.
+/// An atom of a relation.
 fn atom(
     random: &mut Random,
     shape: &Shape,
@@ -254,16 +312,22 @@ fn atom(
 ) -> String {
     let mut terms = Vec::new();
     for _ in 0..shape.arities[relation] {
-        if random.chance(4) {
-            terms.push(random.below(shape.constants).to_string());
-        } else if *variables < 16 && (*variables == 0 || random.chance(fresh)) {
-            terms.push(format!("x{variables}"));
-            *variables += 1;
-        } else {
-            terms.push(format!("x{}", random.below(*variables)));
-        }
+        terms.push(term(random, shape, fresh, variables));
     }
     format!("r{relation}({})", terms.join(","))
+}
+
+/// A new variable in `fresh` of a hundred cases, a constant in a few, and
+/// otherwise a variable that the rule has already.
+fn term(random: &mut Random, shape: &Shape, fresh: usize, variables: &mut usize) -> String {
+    if random.chance(4) {
+        return random.below(shape.constants).to_string();
+    }
+    if *variables < 16 && (*variables == 0 || random.chance(fresh)) {
+        *variables += 1;
+        return format!("x{}", *variables - 1);
+    }
+    format!("x{}", random.below(*variables))
 }
 
 /// A fact, more often of an early relation.
@@ -318,7 +382,7 @@ mod tests {
     #[test]
     fn valid_jobs_are_accepted() {
         for index in 0..500 {
-            for kind in [Kind::Valid, Kind::Rules, Kind::Large] {
+            for kind in [Kind::Valid, Kind::Rules, Kind::Wide, Kind::Large] {
                 assert!(crate::read(&job(kind, 7, index)).is_ok());
             }
         }

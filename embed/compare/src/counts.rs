@@ -5,12 +5,12 @@ use std::fmt;
 use ondajusta::{Outcome, Ran, Refusal};
 use second::random::Kind;
 
-const KINDS: [&str; 4] = ["valid", "damaged", "rules", "large"];
+const KINDS: [&str; 5] = ["valid", "damaged", "rules", "wide", "large"];
 const OUTCOMES: [&str; 4] = ["done", "failed", "steps", "room"];
 
 #[derive(Default)]
 pub struct Counts {
-    kinds: [u64; 4],
+    kinds: [u64; 5],
     outcomes: [u64; 4],
     /// By their numbers, 0 for none.
     refusals: [u64; 11],
@@ -28,7 +28,8 @@ impl Counts {
             Kind::Valid => 0,
             Kind::Damaged => 1,
             Kind::Rules => 2,
-            Kind::Large => 3,
+            Kind::Wide => 3,
+            Kind::Large => 4,
         }] += 1;
         self.refusals[number(answer)] += 1;
         let Ok(ran) = answer else { return };

@@ -21,7 +21,7 @@ impl Trial {
     pub fn new(seed: u64, index: u64) -> Trial {
         let mut random = Random::new(!seed ^ index.wrapping_mul(0xA24B_AED4_963E_E407));
         let kind = kind(&mut random);
-        let plain = kind != Kind::Large && random.chance(30);
+        let plain = kind != Kind::Large && kind != Kind::Wide && random.chance(30);
         let words = length(&mut random, ondajusta::WORDS);
         let ranks = length(&mut random, ondajusta::RANKS);
         let stamp = random.below(1 << 30) as u32;
@@ -46,7 +46,8 @@ fn kind(random: &mut Random) -> Kind {
     match random.below(100) {
         0..=2 => Kind::Large,
         3..=14 => Kind::Rules,
-        15..=54 => Kind::Damaged,
+        15..=29 => Kind::Wide,
+        30..=64 => Kind::Damaged,
         _ => Kind::Valid,
     }
 }
