@@ -1,6 +1,5 @@
 // The line writer: a fact's words as a line of text in a lent buffer.
-ghost use mathlib.Core.Path.{_≡_};
-ghost use Prim.Native.Nat.{_+_, _*_, _≤_, _<_};
+ghost use Prim.Native.Nat.{_+_, _*_, _≤_};
 ghost use lib.ListN.{length};
 ghost use Rattle.model.specs.Facts.{fact};
 ghost use Rattle.model.specs.Words.{factsOf};

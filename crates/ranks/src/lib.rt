@@ -1,16 +1,12 @@
 // Verdict, ranks and generations of a job's rules. Assumes rules as the reader accepts them, and at least 512 lent words.
-ghost use mathlib.Core.Path.{_≡_};
-ghost use mathlib.Core.List.{_++_};
-ghost use Prim.Native.Nat.{_≤_};
-ghost use lib.ListN.{length, drop};
-ghost use Rattle.rules.specs.Rules.{rulesOf, GoodRules};
-ghost use Rattle.model.specs.Edges.{edges};
-ghost use Rattle.model.specs.Ranks.{positions, rankWords, acyclic, generations};
-
 mod reading;
 mod table;
 
 use rules::Rules;
+ghost use Prim.Native.Nat.{_≤_};
+ghost use lib.ListN.{length};
+ghost use Rattle.rules.specs.Rules.{GoodRules};
+ghost use Rattle.ranks.specs.Judges.{Judges};
 
 // The rank of a position: a number of special edges, or 65,535 if there is no largest.
 pub struct Rank {
@@ -33,9 +29,7 @@ pub struct Verdict {
 // The verdict on the rules, with the rank words of all positions set.
 pub fn judge(rules: Rules, ranks: &mut [u16]) -> Verdict
     requires { ⌜ GoodRules rules × (512 ≤ length (now ranks)) ⌝ }
-    ensures words { λ v. ⌜ now (ranks .exit) ≡ rankWords (edges (rulesOf rules)) ++ drop 512 (now (ranks .entry)) ⌝ }
-    ensures acyclic { λ v. ⌜ v .acyclic ≡ acyclic positions (edges (rulesOf rules)) ⌝ }
-    ensures generations { λ v. ⌜ v .generations ≡ generations positions (edges (rulesOf rules)) ⌝ }
+    ensures { λ v. ⌜ Judges rules (now (ranks .entry)) v (now (ranks .exit)) ⌝ }
 {
     let n = rules.count;
     let mut codes = [0u16; 8192];

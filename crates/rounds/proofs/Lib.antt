@@ -3,3 +3,4 @@ pub mod Turns
 pub mod Sweeps
 pub mod Levels
 pub mod Answers
+pub mod Unique

@@ -1,4 +1,4 @@
--- Laws of text put into a buffer: pieces one after the other, and what a contract leaves. Assumes nothing.
+-- Laws of text put into a buffer: pieces one after the other. Assumes nothing.
 use Prim.Native.Nat.{ℕ, _+_, _≤_}
 use native.Mathlib.Omega.{arith}
 use mathlib.Core.Path.{_≡_, refl, sym, ap, _∙_}
@@ -27,10 +27,6 @@ puts-append {a} {b} {l} {l′} {l″} {at} {next} {last} p q =
       place = omega (arith, p .place, q .place, length-append a b);
       bytes = q .bytes ∙ (ap (λ k. sets l′ k b) (p .place) ∙ (ap (λ r. sets r (at + length a) b) (p .bytes) ∙ sym (sets-append l at a b)));
     }
-
--- what is put leaves one next place and one content
-pub puts-unique : {a l l′ l″ : List ℕ} {at next last : ℕ} → Puts a at l next l′ → Puts a at l last l″ → (next ≡ last) × (l′ ≡ l″)
-puts-unique p q = (p .place ∙ sym (q .place), p .bytes ∙ sym (q .bytes))
 
 -- no text leaves all as it is
 pub puts-none : (l : List ℕ) (at : ℕ) → Puts [] at l at l

@@ -1,9 +1,8 @@
 // Pieces of text, put into a lent buffer one after the other: each takes the place where it starts and gives the one behind it.
 pub mod listing;
 
-ghost use mathlib.Core.Path.{_≡_};
-ghost use mathlib.Core.List.{[], _∷_, _++_};
-ghost use Prim.Native.Nat.{_+_, _≤_, _<_};
+ghost use mathlib.Core.List.{[], _∷_};
+ghost use Prim.Native.Nat.{_<_};
 ghost use lib.ListN.{length};
 ghost use Rattle.model.specs.Lines.{digits, decimal};
 ghost use Rattle.model.specs.Answer.{behind};

@@ -39,15 +39,18 @@ judged-requires c κs =
     (packed-rules (start .args .rules) (start .pre .0) _ _ _ _ (length-replicate {A = ℕ} 128 0) (length-replicate {A = ℕ} 8192 0) (λ k m. in-zeros 128 m) (λ k m. in-zeros 8192 m) (c .before .before .before .before .before .pack .ensures .0) (c .before .before .before .before .before .pack .ensures .1) .0, length-take-le 512 (start .args .ranks .now) (start .pre .1))
 
 same-length : tie.Need-same-length
-same-length c =
-    search needs
+same-length c = search needs
 
 returns : tie.Need-returns
 returns c =
     let start = c .before .before .before .before .before .before .before .before .before .before .before .before in
     let e = packed-rules (start .args .rules) (start .pre .0) _ _ _ _ (length-replicate {A = ℕ} 128 0) (length-replicate {A = ℕ} 8192 0) (λ k m. in-zeros 128 m) (λ k m. in-zeros 8192 m) (c .before .before .before .before .before .before .before .before .pack .ensures .0) (c .before .before .before .before .before .before .before .before .pack .ensures .1) .1 in
     let judged = c .before .before .judged in
-    (ap (λ (l : List ℕ). l ++ drop 512 (start .args .ranks .now)) (judged .ensures .0 ∙ ap rankWords e), (judged .ensures .1 .0 ∙ ap (acyclic positions) e, judged .ensures .1 .1 ∙ ap (generations positions) e))
+    record {
+      acyclic-is = judged .ensures .1 .0 ∙ ap (acyclic positions) e;
+      generations-is = judged .ensures .1 .1 ∙ ap (generations positions) e;
+      leaves = ap (λ (l : List ℕ). l ++ drop 512 (start .args .ranks .now)) (judged .ensures .0 ∙ ap rankWords e);
+    }
 
 pub judge-spec : {M : Type 1} → statement M
 judge-spec =

@@ -4,8 +4,6 @@ use lib.ListN.{length}
 use Prim.Native.Nat.{_-_}
 use Rattle.runs.proofs.starts.Statement.{statement}
 use Rattle.runs.proofs.starts.Tie as tie
-use Rattle.runs.proofs.starts.Reads as reads
-use Rattle.runs.proofs.starts.Lts as lts
 
 abbrev Inv-loop : tie.InvT-loop
 Inv-loop name word i₀ i = Unit {0}

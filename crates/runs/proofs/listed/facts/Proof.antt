@@ -4,9 +4,6 @@ use lib.ListN.{length}
 use Prim.Native.Nat.{_-_, _≤_}
 use Rattle.runs.proofs.listed.facts.Statement.{statement}
 use Rattle.runs.proofs.listed.facts.Tie as tie
-use Rattle.runs.proofs.listed.facts.Reads as reads
-use Rattle.runs.proofs.listed.facts.Lts as lts
-use Rattle.runs.proofs.listed.fact.Reads as fact-reads
 
 abbrev Inv-loop : tie.InvT-loop
 Inv-loop words job at₀ at = at ≤ length words

@@ -4,11 +4,6 @@ use lib.ListN.{length}
 use Prim.Native.Nat.{_-_}
 use Rattle.runs.proofs.storage.rank_table.Statement.{statement}
 use Rattle.runs.proofs.storage.rank_table.Tie as tie
-use Rattle.runs.proofs.storage.rank_table.Reads as reads
-use Rattle.runs.proofs.storage.rank_table.Lts as lts
-use Rattle.io.proofs.write_all.Reads as write-all-reads
-use Rattle.runs.proofs.storage.item.Reads as item-reads
-use Rattle.runs.proofs.storage.wide.Reads as wide-reads
 
 abbrev Inv-loop : tie.InvT-loop
 Inv-loop ranks whole₀ i₀ whole i = Unit {0}

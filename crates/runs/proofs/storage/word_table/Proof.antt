@@ -4,10 +4,6 @@ use lib.ListN.{length}
 use Prim.Native.Nat.{_-_}
 use Rattle.runs.proofs.storage.word_table.Statement.{statement}
 use Rattle.runs.proofs.storage.word_table.Tie as tie
-use Rattle.runs.proofs.storage.word_table.Reads as reads
-use Rattle.runs.proofs.storage.word_table.Lts as lts
-use Rattle.io.proofs.write_all.Reads as write-all-reads
-use Rattle.runs.proofs.storage.item.Reads as item-reads
 
 abbrev Inv-loop : tie.InvT-loop
 Inv-loop words whole₀ i₀ whole i = Unit {0}

@@ -4,9 +4,6 @@ use lib.ListN.{length}
 use Prim.Native.Nat.{_-_, _≤_}
 use Rattle.runs.proofs.storage.zeros.Statement.{statement}
 use Rattle.runs.proofs.storage.zeros.Tie as tie
-use Rattle.runs.proofs.storage.zeros.Reads as reads
-use Rattle.runs.proofs.storage.zeros.Lts as lts
-use Rattle.runs.proofs.storage.zero.Reads as zero-reads
 
 abbrev Inv-loop : tie.InvT-loop
 Inv-loop words n₀ i₀ n i = n ≤ i
