@@ -7,18 +7,9 @@ use lib.ListN.{length, length-append, getD}
 use lib.Seq.{getD-append-add}
 use Rattle.model.specs.Facts.{Fact, fact}
 use Rattle.model.specs.Limits.{Shaped}
-use Rattle.model.specs.Words.{padded, nine, wordsOf, image}
+use Rattle.model.specs.Words.{nine, wordsOf, image}
+use Rattle.model.proofs.Rows.{nine-length}
 use Rattle.lines.specs.Rows.{Row, Rows, arityIn}
-
-pub padded-size : (m : ℕ) (xs : List ℕ) → length (padded m xs) ≡ m
-unfolding padded
-padded-size zero xs = refl
-padded-size (suc m) [] = ap suc (padded-size m [])
-padded-size (suc m) (x ∷ xs) = ap suc (padded-size m xs)
-
-nine-size : (f : Fact) → length (nine f) ≡ 9
-unfolding nine
-nine-size (fact r vs) = ap suc (padded-size 8 vs)
 
 module _ (arities : List ℕ) where
   -- a row keeps its place behind nine words more
@@ -40,14 +31,14 @@ module _ (arities : List ℕ) where
     rows-of-words (fact r vs ∷ fs) rest h zero k =
         let s = h (fact r vs) (List·Memᴰ·head refl) .0 in
         record {
-          held = omega (arith, length-append (wordsOf (fact r vs ∷ fs)) rest, length-append (nine (fact r vs)) (wordsOf fs), nine-size (fact r vs));
+          held = omega (arith, length-append (wordsOf (fact r vs ∷ fs)) rest, length-append (nine (fact r vs)) (wordsOf fs), nine-length (fact r vs));
           known = omega arith;
           relation = s;
           arity = small r;
         }
     rows-of-words (f ∷ fs) rest h (suc i) k =
         rw append-assoc
-        (row-shift (nine f) (wordsOf fs ++ rest) i (nine-size f) (rows-of-words fs rest (λ g m. h g (List·Memᴰ·tail m)) i (omega arith)))
+        (row-shift (nine f) (wordsOf fs ++ rest) i (nine-length f) (rows-of-words fs rest (λ g m. h g (List·Memᴰ·tail m)) i (omega arith)))
 
     pub rows-of-image : (fs : List Fact) → ((f : Fact) → List·Memᴰ f fs → Shaped (arityIn arities) f) → Rows (image fs) arities (length fs)
     unfolding image
