@@ -12,7 +12,7 @@ use Rattle.model.specs.Job.{Got, got, refused, Job, judged}
 use Rattle.model.specs.Words.{padded, factsOf, image}
 use Rattle.model.specs.Lines.{lines}
 use Rattle.model.specs.Answer as paper
-use Rattle.model.proofs.Fits.{chase-bounded, result-shaped, facts-of-image}
+use Rattle.model.proofs.Fits.{chase-bounded, result-shaped, facts-of-image, padded-length}
 use Rattle.io.specs.Counts.{Counts}
 use lib.Seq.{length-take-le}
 use Rattle.text.specs.Puts.{Puts}
@@ -29,7 +29,7 @@ use Rattle.text.proofs.Short.{first-line-short, second-line-short, listing-ran}
 use Rattle.lines.specs.Rows.{Rows, arityIn}
 use Rattle.lines.proofs.Rows.{lines-short}
 use Rattle.print.proofs.Heads.{Declared, judged-declared}
-use Rattle.lines.proofs.Images.{padded-size, rows-of-image}
+use Rattle.lines.proofs.Images.{rows-of-image}
 
 -- what is known of an accepted job: its limits, and where its arities stand
 pub record Declares (bs : List ℕ) (j : Job) : Type 0 where
@@ -100,7 +100,7 @@ module _ (bs : List ℕ) (j : Job) (d : Declares bs j) where
   in-room = chase-bounded (arityIn (j .arities)) (j .rules) (j .budget) (j .facts) (d .within) .in-room
 
   rows : Rows (image (factsIn j)) (tableOf bs) (length (factsIn j))
-  rows = rows-of-image (tableOf bs) (padded-size 64 (take (getD bs 7 0) (drop 8 bs))) small (factsIn j) shaped
+  rows = rows-of-image (tableOf bs) (padded-length 64 (take (getD bs 7 0) (drop 8 bs))) small (factsIn j) shaped
 
   facts-back : factsOf (arityIn (tableOf bs)) (length (factsIn j)) (image (factsIn j)) ≡ factsIn j
   facts-back = facts-of-image (arityIn (tableOf bs)) small (factsIn j) shaped

@@ -5,20 +5,19 @@ use native.Mathlib.Omega.{arith}
 use mathlib.Core.Path.{_≡_, refl, sym, ap, _∙_}
 use mathlib.Core.List.{List, [], _∷_}
 use lib.ListN.{length, length-set, length-drop, getD, take, drop, set, replicate}
-use lib.Seq.{getD-drop}
+use lib.Seq.{length-take-le, take-suc, getD-drop}
 use Rattle.model.specs.Words.{padded}
+use Rattle.model.proofs.Rows.{padded-set}
 
 pub padded-none : (m : ℕ) → padded m [] ≡ replicate m 0
 unfolding padded
 padded-none zero = refl
 padded-none (suc m) = ap (λ l. 0 ∷ l) (padded-none m)
 
-pub padded-set : (m i : ℕ) (xs : List ℕ) → i < m → i < length xs → set (padded m (take i xs)) i (getD xs i 0) ≡ padded m (take (suc i) xs)
-unfolding padded
-padded-set zero i xs h k = absurd (omega arith)
-padded-set (suc m) i [] h k = absurd (omega arith)
-padded-set (suc m) zero (x ∷ xs) h k = refl
-padded-set (suc m) (suc i) (x ∷ xs) h k = ap (λ l. x ∷ l) (padded-set m i xs (omega arith) (omega arith))
+padded-more : (m i : ℕ) (xs : List ℕ) → i < m → i < length xs → set (padded m (take i xs)) i (getD xs i 0) ≡ padded m (take (suc i) xs)
+padded-more m i xs h k =
+    let l : length (take i xs) ≡ i = length-take-le i xs (omega arith) in
+    ap (λ j. set (padded m (take i xs)) j (getD xs i 0)) (sym l) ∙ (padded-set m (take i xs) (getD xs i 0) (omega arith) ∙ ap (padded m) (sym (take-suc xs i 0 k)))
 
 -- so many arities are copied
 pub record Table (job : List ℕ) (n i : ℕ) (table : List ℕ) : Type 0 where
@@ -36,5 +35,5 @@ table-more job n i h s {table} f =
       holds =
           ap (λ t. set t i (getD job (8 + i) 0)) (f .holds)
           ∙ (ap (λ v. set (padded 64 (take i (drop 8 job))) i v) (sym (getD-drop 8 job i 0))
-          ∙ (padded-set 64 i (drop 8 job) (omega arith) k ∙ ap (λ m. padded 64 (take m (drop 8 job))) (sym (add-one i))));
+          ∙ (padded-more 64 i (drop 8 job) (omega arith) k ∙ ap (λ m. padded 64 (take m (drop 8 job))) (sym (add-one i))));
     }
