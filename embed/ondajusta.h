@@ -1,8 +1,8 @@
 /* The proved engine, called from C. Link with target/staticlib/libembed.a, which `rt staticlib embed` makes.
  *
- * A caller lends all storage. Each pointer holds as many elements as the length behind it says, and what a call writes overlaps nothing
- * else that is lent to it. Every byte string gets an answer; nothing is kept between calls, so calls may run side by side. A call needs
- * a stack of 1 MiB. */
+ * A caller lends all storage. No pointer is null, each holds as many elements as the length behind it says, and what a call writes
+ * overlaps nothing else that is lent to it. Every byte string gets an answer; nothing is kept between calls, so calls may run side by
+ * side. A call needs a stack of 1 MiB. */
 #ifndef ONDAJUSTA_H
 #define ONDAJUSTA_H
 

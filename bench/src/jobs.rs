@@ -8,8 +8,8 @@ pub struct Row {
     pub name: String,
     pub asked: Asked,
     pub job: Vec<u8>,
-    /// The matches that a search has to pass, by which the work of a family
-    /// grows; a way that would be too slow by it isn't tried.
+    /// How the work of a family grows; a way that would be too slow by it isn't
+    /// tried.
     pub work: f64,
 }
 
@@ -80,7 +80,11 @@ fn joining(atoms: usize) -> Row {
         text += &edges(relation, nodes, 2);
     }
     text += &format!("repeat 0 {} r{atoms}(@).\n", nodes - 1);
-    run(format!("join of {atoms} atoms"), &text, nodes << atoms)
+    run(
+        format!("join of {atoms} atoms"),
+        &text,
+        tried(nodes, 2, atoms as u32),
+    )
 }
 
 /// From each node so many edges, to nodes that lie apart.
@@ -147,11 +151,15 @@ fn eight_atoms(degree: usize) -> Row {
     let mut text = format!("budget 10\narities 2 1\n{} -> r1(x0).\n", body.join(", "));
     text += &edges(0, nodes, degree);
     text += &format!("repeat 0 {} r1(@).\n", nodes - 1);
-    run(
-        format!("8 atoms, {degree} ways each"),
-        &text,
-        nodes * degree.pow(8),
-    )
+    let name = format!("8 atoms, degree {degree}");
+    run(name, &text, tried(nodes, degree, 8))
+}
+
+/// The facts that a search over atoms in a row tries: as many as there are
+/// paths from each node of so many atoms at the most.
+fn tried(nodes: usize, degree: usize, atoms: u32) -> usize {
+    let paths: usize = (1..=atoms).map(|length| degree.pow(length)).sum();
+    nodes * paths
 }
 
 /// The rules and facts of a job of 65,535 bytes, or quarters of them, read to the last value, whose
