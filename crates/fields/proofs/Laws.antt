@@ -11,7 +11,7 @@ use Rattle.model.specs.Job.{Got, got, refused, Reader, after, pick, times, fiel
 use Rattle.fields.specs.declared.Refusal.{Refusal}
 use Rattle.fields.specs.declared.Step.{Step}
 use Rattle.fields.specs.declared.Step.the-variants as S
-use Rattle.fields.specs.Means.{refusalIn, ofStep}
+use Rattle.fields.specs.Means.{refusalIn, ofStep, held}
 
 -- ---- a field that the job holds whole, and one that it ends in
 module _ (n : ℕ) (v : List ℕ → ℕ → ℕ) (bs : List ℕ) (at : ℕ) where
@@ -146,14 +146,24 @@ unfolding after
 step-map (S.Next c) a f = refl
 step-map (S.Refused r) a f = refl
 
-pub step-post : {A B C : Type 0} (s : Step) (a : A) (g : Got C) (h : C → A) (f : A → B) → ofStep s a ≡ after g (λ x p. got (h x) p) → ofStep s (f a) ≡ after g (λ x p. got (f (h x)) p)
+pub step-post : {A B C : Type 0} (s : Step) (a : A) (g : Got C) (h : C → A) (f : A → B) → ofStep s a ≡ after g (λ x p. got (h x) p) →
+    ofStep s (f a) ≡ after g (λ x p. got (f (h x)) p)
 step-post s a g h f e = step-map s a f ∙ (ap (λ k. after k (λ x p. got (f x) p)) e ∙ simp (after-after, after-got))
 
-pub step-short : {A : Type 0} (s : Step) (a : A) (r x : Refusal) → r ≡ refusalIn (ofStep s (tt {0})) → s ≡ S.Refused x → ofStep s a ≡ refused (r .number) (r .place)
+pub step-short : {A : Type 0} (s : Step) (a : A) (r x : Refusal) → r ≡ refusalIn (ofStep s (tt {0})) → s ≡ S.Refused x →
+    ofStep s a ≡ refused (r .number) (r .place)
 step-short s a r x e d = rw (e, d)
 
 pub gives : {A : Type 0} (s : Step) (a : A) (r : Refusal) → s ≡ S.Refused r → ofStep s a ≡ refused (r .number) (r .place)
 gives s a r e = rw e
+
+-- what is kept of it
+module _ {A B : Type 0} (none : B) (f : A → B) (g : Got A) where
+  pub held-got : (a : A) (p : ℕ) → got a p ≡ g → f a ≡ held none f g
+  held-got a p e = ap (held none f) e
+
+  pub held-none : (n p : ℕ) → refused n p ≡ g → none ≡ held none f g
+  held-none n p e = ap (held none f) e
 
 -- ---- the loops: n are left, and K is what becomes of the list of those
 module _ {A B : Type 0} (r : Reader A) (bs : List ℕ) (at : ℕ) (K : List A → ℕ → Got B) where
@@ -189,17 +199,11 @@ unfolding after
 start (got xs p) l e = rw e
 start (refused n p) l e = refl
 
-pub begin : {A : Type 0} (r : Reader A) (bs : List ℕ) (n at : ℕ) (l : List A) → l ≡ [] → times n r bs at ≡ after (times (n - 0) r bs at) (λ xs p. got (l ++ xs) p)
+pub begin : {A : Type 0} (r : Reader A) (bs : List ℕ) (n at : ℕ) (l : List A) → l ≡ [] →
+    times n r bs at ≡ after (times (n - 0) r bs at) (λ xs p. got (l ++ xs) p)
 begin r bs n at l e =
     let h : n - 0 ≡ n = omega arith in
     rw h (start (times n r bs at) l e)
-
-pub begin-at : {A : Type 0} (r : Reader A) (bs : List ℕ) (n at k : ℕ) (f : ℕ → List A) →
-    after (times n r bs at) (λ xs p. got (f k ++ xs) p) ≡ after (times (n - 0) r bs at) (λ xs p. got (f (k + 0) ++ xs) p)
-begin-at r bs n at k f =
-    let h : n - 0 ≡ n = omega arith in
-    let z : k + 0 ≡ k = omega arith in
-    rw (h, z)
 
 pub times-length : {A : Type 0} (r : Reader A) (bs : List ℕ) (n at : ℕ) (xs : List A) (q : ℕ) → times n r bs at ≡ got xs q → length xs ≡ n
 unfolding times

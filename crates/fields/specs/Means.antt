@@ -21,3 +21,8 @@ ofStep (S.Refused r) a = refused (r .number) (r .place)
 abbrev pub refusalIn : {A : Type 0} → Got A → Refusal
 refusalIn (got a p) = record { number = 0; place = 0 }
 refusalIn (refused n p) = record { number = n; place = p }
+
+-- what is kept of an answer: a value of what was read, nothing where it was refused
+abbrev pub held : {A B : Type 0} → B → (A → B) → Got A → B
+held none f (got a p) = f a
+held none f (refused n p) = none

@@ -1,4 +1,5 @@
 // The fields of a job, each read at a cursor: its value with the next cursor, or the refusal. Nothing is assumed of bytes or cursor.
+// Each answer means what the paper's reader of that field gives, so there is one answer for every job and place.
 ghost use mathlib.Core.Path.{_≡_};
 ghost use Prim.Native.Nat.{ℕ, _+_, _*_};
 ghost use Rattle.model.specs.Job.{got, refused, readByte, readHalf, readWord, readCount, readNumber, readUpTo, readMark, readVersion, readEnd};
@@ -37,7 +38,7 @@ impl Refusal {
 
 impl Field {
     // A value, and the place after it.
-    pub fn new(value: u32, next: usize) -> Self
+    fn new(value: u32, next: usize) -> Self
         ensures { λ r. ⌜ ofField r ≡ got value next ⌝ }
     {
         Field::Value(value, Cursor { at: next })
@@ -66,14 +67,14 @@ impl Field {
 
 impl Step {
     // The place after what was read.
-    pub fn new(next: usize) -> Self
+    fn new(next: usize) -> Self
         ensures { λ r. ⌜ ofStep r (tt {0}) ≡ got (tt {0}) next ⌝ }
     {
         Step::Next(Cursor { at: next })
     }
 
     // A fault at a place.
-    pub fn fault(number: u8, place: usize) -> Self
+    fn fault(number: u8, place: usize) -> Self
         ensures { λ r. ⌜ ofStep r (tt {0}) ≡ refused number place ⌝ }
     {
         Step::Refused(Refusal { number, place })
@@ -185,11 +186,11 @@ impl Cursor {
     {
         let start = self.at;
         let read = self.half(s);
-        let Field::Value(x, next) = read else {
+        let Field::Value(n, next) = read else {
             return Field::Refused(read.refusal());
         };
-        if x <= high {
-            Field::Value(x, next)
+        if n <= high {
+            Field::Value(n, next)
         } else {
             Field::fault(6, start)
         }

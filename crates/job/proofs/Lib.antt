@@ -1,5 +1,5 @@
 pub mod Accepted
-pub mod Fitting
 pub mod Laws
 pub mod Taken
+pub mod Unique
 mod Examples

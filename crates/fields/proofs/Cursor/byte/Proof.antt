@@ -26,7 +26,9 @@ fault-requires c κs = search needs
 
 returns : tie.Need-returns
 unfolding readByte
-returns c = let a = c .before .before .before .before .before .args in c .new .ensures ∙ (ap (λ v. got v (a .self .at + 1)) (c .before .byte-of .ensures) ∙ field-in 1 byteAt (now (a .s)) (a .self .at) (omega arith))
+returns c =
+    let a = c .before .before .before .before .before .args in
+    c .new .ensures ∙ (ap (λ v. got v (a .self .at + 1)) (c .before .byte-of .ensures) ∙ field-in 1 byteAt (now (a .s)) (a .self .at) (omega arith))
 
 returns-2 : tie.Need-returns-2
 unfolding readByte

@@ -29,18 +29,28 @@ fault-requires c κs = search needs
 
 returns-2 : tie.Need-returns-2
 unfolding readCount
-returns-2 c = c .fault .ensures ∙ (lost _ _ _ _ _ (lt-leb _ _ (c .before .if1 .taken)) ∙ goes _ _ _ _ _ (c .before .before .before .before .before .byte .ensures) (ap ofField (c .before .before .before .read .given .1)))
+returns-2 c =
+    c .fault .ensures
+    ∙ (lost _ _ _ _ _ (lt-leb _ _ (c .before .if1 .taken))
+    ∙ goes _ _ _ _ _ (c .before .before .before .before .before .byte .ensures) (ap ofField (c .before .before .before .read .given .1)))
 
 fault-requires-2 : tie.Need-fault-requires-2
 fault-requires-2 c κs = search needs
 
 returns-3 : tie.Need-returns-3
 unfolding readCount
-returns-3 c = c .fault2 .ensures ∙ (lost _ _ _ _ _ (lt-leb _ _ (c .before .if2 .taken)) ∙ (kept _ _ _ _ _ (le-leb _ _ (c .before .before .if1 .left)) ∙ goes _ _ _ _ _ (c .before .before .before .before .before .before .byte .ensures) (ap ofField (c .before .before .before .before .read .given .1))))
+returns-3 c =
+    c .fault2 .ensures
+    ∙ (lost _ _ _ _ _ (lt-leb _ _ (c .before .if2 .taken))
+    ∙ (kept _ _ _ _ _ (le-leb _ _ (c .before .before .if1 .left))
+    ∙ goes _ _ _ _ _ (c .before .before .before .before .before .before .byte .ensures) (ap ofField (c .before .before .before .before .read .given .1))))
 
 returns-4 : tie.Need-returns-4
 unfolding readCount
-returns-4 c = kept _ _ _ _ _ (le-leb _ _ (c .if2 .left)) ∙ (kept _ _ _ _ _ (le-leb _ _ (c .before .if1 .left)) ∙ goes _ _ _ _ _ (c .before .before .before .before .before .byte .ensures) (ap ofField (c .before .before .before .read .given .1)))
+returns-4 c =
+    kept _ _ _ _ _ (le-leb _ _ (c .if2 .left))
+    ∙ (kept _ _ _ _ _ (le-leb _ _ (c .before .if1 .left))
+    ∙ goes _ _ _ _ _ (c .before .before .before .before .before .byte .ensures) (ap ofField (c .before .before .before .read .given .1)))
 
 pub count-spec : {M : Type 1} → statement M
 count-spec =

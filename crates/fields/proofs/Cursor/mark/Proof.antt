@@ -67,7 +67,10 @@ unfolding readMark
 returns-4 c =
     let a = c .before .before .before .before .before .before .before .before .before .before .before .args in
     let l : a .self .at + 3 ≤ length (now (a .s)) = omega arith in
-    c .fault4 .ensures ∙ (lost _ _ _ _ _ (ne-eqb _ _ (c .before .if4 .taken)) ∙ (kept _ _ _ _ _ (eq-eqb _ _ (c .before .before .before .before .if3 .left)) ∙ kept _ _ _ _ _ (le-leb _ _ l)))
+    c .fault4 .ensures
+    ∙ (lost _ _ _ _ _ (ne-eqb _ _ (c .before .if4 .taken))
+    ∙ (kept _ _ _ _ _ (eq-eqb _ _ (c .before .before .before .before .if3 .left))
+    ∙ kept _ _ _ _ _ (le-leb _ _ l)))
 
 add-if5 : tie.Need-add-if5
 add-if5 c = search needs
@@ -86,7 +89,11 @@ unfolding readMark
 returns-5 c =
     let a = c .before .before .before .before .before .before .before .before .before .before .before .before .before .before .args in
     let l : a .self .at + 3 ≤ length (now (a .s)) = omega arith in
-    c .fault5 .ensures ∙ (passed _ _ _ (ne-eqb _ _ (c .before .if5 .taken)) ∙ (kept _ _ _ _ _ (eq-eqb _ _ (c .before .before .before .before .if4 .left)) ∙ (kept _ _ _ _ _ (eq-eqb _ _ (c .before .before .before .before .before .before .before .if3 .left)) ∙ kept _ _ _ _ _ (le-leb _ _ l))))
+    c .fault5 .ensures
+    ∙ (passed _ _ _ (ne-eqb _ _ (c .before .if5 .taken))
+    ∙ (kept _ _ _ _ _ (eq-eqb _ _ (c .before .before .before .before .if4 .left))
+    ∙ (kept _ _ _ _ _ (eq-eqb _ _ (c .before .before .before .before .before .before .before .if3 .left))
+    ∙ kept _ _ _ _ _ (le-leb _ _ l))))
 
 add-new : tie.Need-add-new
 add-new c = search needs
@@ -99,7 +106,11 @@ unfolding readMark
 returns-6 c =
     let a = c .before .before .before .before .before .before .before .before .before .before .before .before .before .before .args in
     let l : a .self .at + 3 ≤ length (now (a .s)) = omega arith in
-    c .new .ensures ∙ (picked _ _ _ (eq-eqb _ _ (c .before .if5 .left)) ∙ (kept _ _ _ _ _ (eq-eqb _ _ (c .before .before .before .before .if4 .left)) ∙ (kept _ _ _ _ _ (eq-eqb _ _ (c .before .before .before .before .before .before .before .if3 .left)) ∙ kept _ _ _ _ _ (le-leb _ _ l))))
+    c .new .ensures
+    ∙ (picked _ _ _ (eq-eqb _ _ (c .before .if5 .left))
+    ∙ (kept _ _ _ _ _ (eq-eqb _ _ (c .before .before .before .before .if4 .left))
+    ∙ (kept _ _ _ _ _ (eq-eqb _ _ (c .before .before .before .before .before .before .before .if3 .left))
+    ∙ kept _ _ _ _ _ (le-leb _ _ l))))
 
 pub mark-spec : {M : Type 1} → statement M
 mark-spec =

@@ -29,11 +29,16 @@ fault-requires c κs = search needs
 
 returns-2 : tie.Need-returns-2
 unfolding readUpTo
-returns-2 c = kept _ _ _ _ _ (le-leb _ _ (c .if1 .taken)) ∙ goes _ _ _ _ _ (c .before .before .before .before .word .ensures) (ap ofField (c .before .before .read .given .1))
+returns-2 c =
+    kept _ _ _ _ _ (le-leb _ _ (c .if1 .taken))
+    ∙ goes _ _ _ _ _ (c .before .before .before .before .word .ensures) (ap ofField (c .before .before .read .given .1))
 
 returns-3 : tie.Need-returns-3
 unfolding readUpTo
-returns-3 c = c .fault .ensures ∙ (lost _ _ _ _ _ (lt-leb _ _ (c .before .if1 .left)) ∙ goes _ _ _ _ _ (c .before .before .before .before .before .word .ensures) (ap ofField (c .before .before .before .read .given .1)))
+returns-3 c =
+    c .fault .ensures
+    ∙ (lost _ _ _ _ _ (lt-leb _ _ (c .before .if1 .left))
+    ∙ goes _ _ _ _ _ (c .before .before .before .before .before .word .ensures) (ap ofField (c .before .before .before .read .given .1)))
 
 pub up-to-spec : {M : Type 1} → statement M
 up-to-spec =

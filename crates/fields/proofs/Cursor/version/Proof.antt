@@ -29,11 +29,16 @@ fault-requires c κs = search needs
 
 returns-2 : tie.Need-returns-2
 unfolding readVersion
-returns-2 c = picked _ _ _ (eq-eqb _ _ (c .if1 .taken)) ∙ goes _ _ _ _ _ (c .before .before .before .before .half .ensures) (ap ofField (c .before .before .read .given .1))
+returns-2 c =
+    picked _ _ _ (eq-eqb _ _ (c .if1 .taken))
+    ∙ goes _ _ _ _ _ (c .before .before .before .before .half .ensures) (ap ofField (c .before .before .read .given .1))
 
 returns-3 : tie.Need-returns-3
 unfolding readVersion
-returns-3 c = c .fault .ensures ∙ (passed _ _ _ (ne-eqb _ _ (c .before .if1 .left)) ∙ goes _ _ _ _ _ (c .before .before .before .before .before .half .ensures) (ap ofField (c .before .before .before .read .given .1)))
+returns-3 c =
+    c .fault .ensures
+    ∙ (passed _ _ _ (ne-eqb _ _ (c .before .if1 .left))
+    ∙ goes _ _ _ _ _ (c .before .before .before .before .before .half .ensures) (ap ofField (c .before .before .before .read .given .1)))
 
 pub version-spec : {M : Type 1} → statement M
 version-spec =

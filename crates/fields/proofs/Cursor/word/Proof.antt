@@ -54,7 +54,9 @@ fault-requires-2 c κs = search needs
 
 returns-2 : tie.Need-returns-2
 unfolding readWord
-returns-2 c = let a = c .before .before .before .before .before .before .before .before .before .args in c .new .ensures ∙ (ap (λ v. got v (a .self .at + 4)) (c .before .word-of .ensures) ∙ field-in 4 wordAt (now (a .s)) (a .self .at) (omega arith))
+returns-2 c =
+    let a = c .before .before .before .before .before .before .before .before .before .args in
+    c .new .ensures ∙ (ap (λ v. got v (a .self .at + 4)) (c .before .word-of .ensures) ∙ field-in 4 wordAt (now (a .s)) (a .self .at) (omega arith))
 
 returns-3 : tie.Need-returns-3
 unfolding readWord
