@@ -1,4 +1,5 @@
-// The line writer: a fact's words as a line of text in a lent buffer.
+// The line writer: a fact's words as a line of text in a lent buffer, refused by number and place, and the lines of many facts at once. Promised
+// is that exactly the lines' bytes are set.
 ghost use Prim.Native.Nat.{_+_, _*_, _≤_};
 ghost use lib.ListN.{length};
 ghost use Rattle.model.specs.Facts.{fact};

@@ -1,4 +1,4 @@
-// A job on standard input, its listing on standard output.
+// A job on standard input, its listing on standard output. What is printed is proved in `print`; reading and writing are the library's.
 use libc::STDIN_FILENO;
 use libc::STDOUT_FILENO;
 

@@ -1,4 +1,5 @@
-// The listing of a job as bytes: the run's answer, its first two lines and a line for each fact, or the refusal alone.
+// The listing of a job as bytes: the run's answer, its first two lines and a line for each fact, or the refusal alone. Promised is that exactly
+// the paper's listing is set. Assumes 102,400 lent bytes, which are always enough.
 use engine::answer::RunAnswer;
 use text::listing::Ending;
 ghost use mathlib.Core.Path.{_≡_};

@@ -1,4 +1,5 @@
-// Verdict, ranks and generations of a job's rules. Assumes rules as the reader accepts them, and at least 512 lent words.
+// Verdict, ranks and generations of a job's rules. Promised is that they are the paper's, and that words beyond the 512 stay. Assumes rules as the
+// reader accepts them, and at least 512 lent words.
 mod reading;
 mod table;
 

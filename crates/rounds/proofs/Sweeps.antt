@@ -181,10 +181,6 @@ module _ (c : ℕ) (r₀ : List ℕ) (n : ℕ) (counts codes r : List ℕ) (chan
       λ k j. packed .fine k (in-drop mid codes (in-take (end - mid) (drop mid codes) j)),
     )
 
-    -- the parts lie within the codes
-    pub sweeping-inside : (at ≤ mid) × (mid ≤ end) × (end ≤ 128 * i + 128)
-    sweeping-inside = let w = inv .place in let x = packed .each (2 * i) in let y = packed .each (2 * i + 1) in (omega arith, omega arith, omega arith)
-
   pub sweeping-end : n ≤ i → r ≡ sweep c r₀ (table n counts codes)
   unfolding table
   sweeping-end ge = let e : n - i ≡ 0 = omega arith in sym (ap (λ (k : ℕ). sweep c r (table k (drop (2 * i) counts) (drop at codes))) e) ∙ inv .rest

@@ -63,18 +63,6 @@ digits-few =
     few n x ds h p zero b = omega arith
     few n x ds h p (suc k) b = omega (arith, p k (tenth x (suc k) b), length-append ds ((48 + x % 10) ∷ []))
 
--- one place more than a number needs changes nothing
-pub digits-enough : (n x : ℕ) → 0 < n → x < 10 ^ n → digits n x ≡ digits (suc n) x
-digits-enough =
-    by-digits (λ n x ds. 0 < n → x < 10 ^ n → ds ≡ digits (suc n) x) (λ x h b. absurd (omega arith))
-    (λ n x h k b. sym (digits-one (suc n) x h)) enough
-  where
-    enough : (n x : ℕ) (ds : List ℕ) → 10 ≤ x → (0 < n → x / 10 < 10 ^ n → ds ≡ digits (suc n) (x / 10)) → 0 < suc n → x < 10 ^ suc n
-        → ds ++ ((48 + x % 10) ∷ []) ≡ digits (suc (suc n)) x
-    enough zero x ds h p k b = absurd (omega arith)
-    enough (suc n) x ds h p k b =
-        ap (λ r. r ++ ((48 + x % 10) ∷ [])) (p (omega arith) (tenth x (suc n) b)) ∙ sym (digits-more (suc (suc n)) x h)
-
 valueFrom-append : (y : ℕ) (ds : List ℕ) (d : ℕ) → valueFrom y (ds ++ (d ∷ [])) ≡ valueFrom y ds * 10 + (d - 48)
 unfolding valueFrom
 valueFrom-append y [] d = refl
@@ -122,15 +110,6 @@ digits-bytes =
 abbrev pub tenDigits : ℕ
 tenDigits = 10000000000
 
-pub decimal-one : (x : ℕ) → x < 10 → decimal x ≡ (48 + x) ∷ []
-unfolding decimal
-decimal-one x h = digits-one 9 x h
-
-pub decimal-more : (x : ℕ) → 10 ≤ x → x < tenDigits → decimal x ≡ decimal (x / 10) ++ ((48 + x % 10) ∷ [])
-unfolding decimal
-decimal-more x h b =
-    digits-more 9 x h ∙ ap (λ r. r ++ ((48 + x % 10) ∷ [])) (digits-enough 9 (x / 10) (omega arith) (omega arith))
-
 pub decimal-many : (x : ℕ) → length (decimal x) ≤ 10
 unfolding decimal
 decimal-many x = digits-many 10 x
@@ -142,10 +121,6 @@ decimal-few x k h = digits-few 10 x k h
 pub decimal-value : (x : ℕ) → x < tenDigits → valueOf (decimal x) ≡ x
 unfolding decimal
 decimal-value x h = digits-value 10 x h
-
-pub decimal-lead : (x : ℕ) → x < tenDigits → getD (decimal x) 0 0 ≡ 48 → x ≡ 0
-unfolding decimal
-decimal-lead x h = digits-lead 10 x (omega arith) h .1
 
 -- two numbers with the same digits are the same
 pub decimal-injective : (x y : ℕ) → x < tenDigits → y < tenDigits → decimal x ≡ decimal y → x ≡ y

@@ -1,14 +1,14 @@
 -- How long the pieces of the listing are at most, and how they make it up. Assumes nothing.
 use Prim.Native.Nat.{ℕ, _≤_}
 use native.Mathlib.Omega.{arith}
-use mathlib.Core.Path.{_≡_, refl}
+use mathlib.Core.Path.{_≡_}
 use mathlib.Core.Bool.{Bool, true, false}
 use mathlib.Core.List.{List, _++_, append-assoc}
 use lib.ListN.{length, length-append}
 use Rattle.model.specs.Lines.{lines}
 use Rattle.model.specs.Facts.{Fact}
 use Rattle.model.specs.Chase.{Outcome, done, failed, steps, room}
-use Rattle.model.specs.Answer.{outcomeText, verdictText, behind, refusedText, ran, refusal, listing}
+use Rattle.model.specs.Answer.{outcomeText, verdictText, behind, refusedText, ran, listing}
 use Rattle.text.specs.Listing.{firstLine, secondLine}
 use Rattle.text.proofs.Decimal.{decimal-many}
 
@@ -38,12 +38,8 @@ second-line-short a g = simp length-append (omega (arith, verdict-short a, decim
 pub refused-short : (n p : ℕ) → length (refusedText n p) ≤ 33
 refused-short n p = simp length-append (omega (arith, decimal-many n, decimal-many p))
 
--- the listing is its first two lines and those of the facts, or the refusal's
+-- the listing is its first two lines and those of the facts
 pub listing-ran : (o : Outcome) (n m k : ℕ) (a : Bool) (g : ℕ) (fs : List Fact)
     → listing (ran o n m k a g) fs ≡ firstLine o n m k ++ (secondLine a g ++ lines fs)
 unfolding listing firstLine secondLine
 listing-ran o n m k a g fs = simp append-assoc
-
-pub listing-refused : (n p : ℕ) (fs : List Fact) → listing (refusal n p) fs ≡ refusedText n p
-unfolding listing
-listing-refused n p fs = refl

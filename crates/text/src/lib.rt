@@ -1,4 +1,5 @@
-// Pieces of text, put into a lent buffer one after the other: each takes the place where it starts and gives the one behind it.
+// Pieces of text, put into a lent buffer one after the other: each takes the place where it starts and gives the one behind it. Promised is that
+// exactly the text's bytes are set. Assumes space for them.
 pub mod listing;
 
 ghost use mathlib.Core.List.{[], _∷_};
