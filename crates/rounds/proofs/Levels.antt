@@ -96,10 +96,8 @@ pub record Leveling (g : List Edge) (c : ℕ) (r : List ℕ) (more : Bool) : Typ
 pub leveling-start : (g : List Edge) (r : List ℕ) → Board 0 r → Leveling g 0 r true
 leveling-start g r b = record { board = b; sound = λ v. (v, 0, stay, b .capped v); goes = λ e. omega arith; done = λ e. absurd (true-false e) }
 
-pub leveling-board : (g : List Edge) (c : ℕ) (r : List ℕ) (more : Bool) → Leveling g c r more → more ≡ true → Board (c + 1) r
-leveling-board g c r more w t =
-    let l = w .goes t in
-    record { cap = omega arith; long = w .board .long; capped = λ v. let k = w .board .capped v in omega arith }
+pub leveling-board : (g : List Edge) (c d : ℕ) (r : List ℕ) (more : Bool) → Leveling g c r more → c < d → d ≤ 512 → Board d r
+leveling-board g c d r more w up h = record { cap = h; long = w .board .long; capped = λ v. let k = w .board .capped v in omega arith }
 
 pub leveling-step : (g : List Edge) (c : ℕ) (r : List ℕ) (b : Bool) → Settled g c r → (b ≡ false → Enough r c) → (b ≡ true → c < 512) → Leveling g c r b
 leveling-step g c r b s f t = record { board = record { cap = s .cap; long = s .long; capped = s .capped }; sound = s .sound; goes = t; done = λ e. (s, f e) }

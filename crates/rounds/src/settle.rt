@@ -67,6 +67,20 @@ fn goes(r: &[u16], c: u16) -> bool
     has(r, c - 1)
 }
 
+// The number to try after c: half as large again, 2 at first and 512 at last.
+fn larger(c: u16) -> u16
+    requires { ⌜ c < 512 ⌝ }
+    ensures { λ r. ⌜ (c < r) × (r ≤ 512) ⌝ }
+{
+    if c < 1 {
+        return 2;
+    }
+    if 340 < c {
+        return 512;
+    }
+    c + c / 2 + 1
+}
+
 // Larger and larger numbers, until one can stand for 'no largest': that one.
 pub fn leveled(codes: &[u16], counts: &[usize], n: usize, r: &mut [u16]) -> u16
     requires { ⌜ Packed n (now counts) (now codes) × Board 0 (now r) ⌝ }
@@ -75,7 +89,7 @@ pub fn leveled(codes: &[u16], counts: &[usize], n: usize, r: &mut [u16]) -> u16
     let mut c: u16 = 0;
     let mut more = true;
     while more {
-        c += 1;
+        c = larger(c);
         settled(codes, counts, n, c, r);
         more = goes(r, c);
     }

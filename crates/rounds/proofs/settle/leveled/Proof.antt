@@ -1,7 +1,7 @@
 -- `rounds::settle::leveled` meets its contract. Assumes nothing.
 use native.Mathlib.Omega.{arith}
 use mathlib.Core.Path.{_∙_, sym}
-use Prim.Native.Nat.{_-_, _+_}
+use Prim.Native.Nat.{_-_}
 use Rattle.rounds.specs.Table.{table, graph}
 use Rattle.rounds.proofs.Levels.{Leveling, leveling-start, leveling-board, leveling-step}
 use Rattle.rounds.proofs.settle.leveled.Statement.{statement}
@@ -19,25 +19,30 @@ loop-holds : tie.Need-loop-holds Inv-loop μ-loop
 loop-holds c =
     leveling-start _ (c .before .before .before .args .r .now) (c .before .before .before .pre .1)
 
-add-c : tie.Need-add-c Inv-loop μ-loop
-add-c c =
-    omega (arith, c .before .loop .inv .board .cap)
+larger-requires : tie.Need-larger-requires Inv-loop μ-loop
+larger-requires c κs =
+    c .before .loop .inv .goes (c .loop-test .taken)
 
 settled-requires : tie.Need-settled-requires Inv-loop μ-loop
 settled-requires c κs =
-    (c .before .before .before .before .before .before .pre .0, leveling-board _ (c .before .before .loop .c) (c .before .before .loop .r) (c .before .before .loop .more) (c .before .before .loop .inv) (c .before .loop-test .taken), c .before .before .loop .inv .sound)
+    let loop = c .before .before .before .loop in
+    let next = c .before .larger in
+    (c .before .before .before .before .before .before .before .pre .0, leveling-board _ (loop .c) (next .result) (loop .r) (loop .more) (loop .inv) (next .ensures .0) (next .ensures .1), loop .inv .sound)
 
 goes-requires : tie.Need-goes-requires Inv-loop μ-loop
 goes-requires c κs =
-    (c .before .before .before .settled .ensures .long, omega arith, c .before .before .before .settled .ensures .cap)
+    let settled = c .before .before .before .settled .ensures in
+    (settled .long, omega (arith, c .before .before .before .before .before .larger .ensures .0), settled .cap)
 
 loop-less : tie.Need-loop-less Inv-loop μ-loop
 loop-less c =
-    omega (arith, c .before .before .before .before .before .before .before .loop .inv .goes (c .before .before .before .before .before .before .loop-test .taken))
+    let next = c .before .before .before .before .before .before .larger .ensures in
+    omega (arith, next .0, next .1)
 
 loop-again : tie.Need-loop-again Inv-loop μ-loop
 loop-again c =
-    leveling-step _ (c .before .before .before .before .before .before .before .loop .c + 1) (c .before .before .before .before .settled .last .1 .1 .1 .1 .0) (c .goes .result) (c .before .before .before .before .settled .ensures) (c .goes .ensures .0) (c .goes .ensures .1)
+    let settled = c .before .before .before .before .settled in
+    leveling-step _ (c .before .before .before .before .before .before .larger .result) (settled .last .1 .1 .1 .1 .0) (c .goes .result) (settled .ensures) (c .goes .ensures .0) (c .goes .ensures .1)
 
 same-length : tie.Need-same-length Inv-loop μ-loop
 same-length c =
@@ -54,7 +59,7 @@ leveled-spec =
     Inv-loop
     μ-loop
     loop-holds
-    add-c
+    larger-requires
     settled-requires
     goes-requires
     loop-less
