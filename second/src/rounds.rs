@@ -64,11 +64,21 @@ fn spots(atoms: &[Atom]) -> Vec<Spot> {
 fn level(lifts: &[Lift], ranks: &mut [u16; POSITIONS]) -> u16 {
     let mut cap = 0;
     loop {
-        cap += 1;
+        cap = larger(cap);
         while round(lifts, cap, ranks) {}
         if usize::from(cap) >= POSITIONS || !ranks.contains(&(cap - 1)) {
             return cap;
         }
+    }
+}
+
+/// The cap to try after this one: half as large again, 2 at first, the number
+/// of positions at last.
+fn larger(cap: u16) -> u16 {
+    match cap {
+        0 => 2,
+        1..=340 => cap + cap / 2 + 1,
+        _ => POSITIONS as u16,
     }
 }
 
