@@ -5,9 +5,6 @@ use chase::outcome::Outcome;
 use fields::Refusal;
 use ranks::Verdict;
 ghost use mathlib.Core.Path.{_≡_};
-ghost use Prim.Native.Nat.{_<_};
-ghost use Rattle.model.specs.Values.{blanks};
-ghost use Rattle.heads.specs.Counting.{nextOf};
 ghost use Rattle.engine.specs.Answers.{refusedWith, ranWith, refusesWith, judgesWith};
 
 // The answer to a run of a refused job.
@@ -22,16 +19,14 @@ pub fn refused(r: Refusal) -> RunAnswer
 
 // The answer to a run of an accepted job.
 pub fn ran(outcome: Outcome, verdict: Verdict) -> RunAnswer
-    requires { ⌜ nextOf (outcome .counter) < blanks ⌝ }
     ensures { λ a. ⌜ a ≡ ranWith outcome verdict ⌝ }
 {
     let ending = outcome.ending;
-    let counter = outcome.counter;
     RunAnswer::Ran {
         ending: ending,
         steps: outcome.steps,
         facts: outcome.facts,
-        next: counter.next(),
+        next: outcome.next,
         acyclic: verdict.acyclic,
         generations: verdict.generations,
     }
