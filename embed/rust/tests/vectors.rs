@@ -26,14 +26,29 @@ fn printed() -> Vec<u8> {
     printed
 }
 
+/// The names and listings that are stored. For some jobs the lent storage
+/// follows, from a line with its zeros on to the next name.
+fn wanted() -> Vec<u8> {
+    let text = fs::read_to_string(runs().join("stdout")).expect("what the vectors print");
+    let mut wanted = String::new();
+    let mut storage = false;
+    for line in text.lines() {
+        storage = (storage || line.starts_with("zeros ")) && !line.ends_with(".job");
+        if !storage {
+            wanted += line;
+            wanted.push('\n');
+        }
+    }
+    wanted.into_bytes()
+}
+
 /// A thread of 1 MiB prints them: a call asks for no more stack.
 #[test]
 fn every_listing_is_the_stored_one() {
     let thread = thread::Builder::new().stack_size(1 << 20).spawn(printed);
     let printed = thread.expect("a thread").join().expect("all listings");
-    let wanted = fs::read(runs().join("stdout")).expect("what the vectors print");
     assert!(
-        printed == wanted,
+        printed == wanted(),
         "the listings differ from crates/runs/stdout"
     );
 }
