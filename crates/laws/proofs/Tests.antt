@@ -1,11 +1,10 @@
 -- Laws of numbers and of their tests. Assumes nothing.
-use Prim.Native.Nat.{ℕ, _+_, _-_, _≤_, _<_}
-use native.Mathlib.Omega.{arith}
-use mathlib.Core.Path.{_≡_, refl, sym, ap, _∙_}
+use Prim.Native.Nat.{ℕ, _≤_, _<_}
+use mathlib.Core.Path.{_≡_, refl, ap, _∙_}
 use mathlib.Core.Bool.{Bool, true, false, _||_, true≢false, or-true}
 use mathlib.Core.Logic.{_⊎_, inl, inr}
-use lib.Dec.{eqb, ltb, leb}
-use borrow.Author.Tests.{ltb-true, ltb-false, eqb-true, eqb-false, le-leb, lt-leb, leb-true, leb-false}
+use lib.Dec.{eqb, ltb}
+use borrow.Author.Tests.{ltb-true, ltb-false, eqb-true, eqb-false}
 
 pub lt-or-ge : (m n : ℕ) → (m < n) ⊎ (n ≤ m)
 lt-or-ge m n = go (ltb m n) refl
@@ -35,15 +34,3 @@ module _ (a b : Bool) where
 pub or-neither : (a b : Bool) → (a || b) ≡ false → (a ≡ false) × (b ≡ false)
 or-neither true b e = absurd (true≢false e)
 or-neither false b e = (refl, e)
-
--- what is left of a limit decides whether more is within it
-module _ (used more most : ℕ) where
-  pub room-none : most < used → false ≡ leb (used + more) most
-  room-none h = sym (lt-leb (used + more) most (omega arith))
-
-  pub room-left : used ≤ most → leb more (most - used) ≡ leb (used + more) most
-  room-left h = go (leb (used + more) most) refl
-    where
-      go : (b : Bool) → leb (used + more) most ≡ b → leb more (most - used) ≡ b
-      go true e = le-leb more (most - used) (omega (arith, leb-true (used + more) most e))
-      go false e = lt-leb more (most - used) (omega (arith, leb-false (used + more) most e))

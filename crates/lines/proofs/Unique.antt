@@ -5,7 +5,7 @@ use mathlib.Core.List.{List}
 use Rattle.model.specs.Words.{factsOf}
 use Rattle.model.specs.Lines.{lines}
 use Rattle.text.specs.Puts.{Puts}
-use Rattle.text.proofs.Unique.{puts-unique}
+use Rattle.text.proofs.Unique.{puts-one}
 use Rattle.lines.specs.declared.Written.{Written}
 use Rattle.lines.specs.declared.Written.the-variants.{Refused, Wrote}
 use Rattle.lines.specs.Line.{ofWritten, LineContract}
@@ -18,10 +18,10 @@ same-written (Wrote n) (Wrote n′) e = cc
 same-written (Refused n p) (Wrote n′) e = cc
 same-written (Wrote n) (Refused n′ p′) e = cc
 
-pub line-unique : (words : List ℕ) (arity : ℕ) (lent : List ℕ) {r r′ : Written} {left left′ : List ℕ} → LineContract words arity lent r left
+pub line-one : (words : List ℕ) (arity : ℕ) (lent : List ℕ) {r r′ : Written} {left left′ : List ℕ} → LineContract words arity lent r left
     → LineContract words arity lent r′ left′ → (r ≡ r′) × (left ≡ left′)
-line-unique words arity lent {r} {r′} p q = (same-written r r′ (p .answers ∙ sym (q .answers)), p .leaves ∙ sym (q .leaves))
+line-one words arity lent {r} {r′} p q = (same-written r r′ (p .answers ∙ sym (q .answers)), p .leaves ∙ sym (q .leaves))
 
-pub facts-unique : (words arities : List ℕ) (n at : ℕ) (lent : List ℕ) {r r′ : ℕ} {left left′ : List ℕ} → Puts (lines (factsOf (arityIn arities) n words)) at lent r left
+pub facts-one : (words arities : List ℕ) (n at : ℕ) (lent : List ℕ) {r r′ : ℕ} {left left′ : List ℕ} → Puts (lines (factsOf (arityIn arities) n words)) at lent r left
     → Puts (lines (factsOf (arityIn arities) n words)) at lent r′ left′ → (r ≡ r′) × (left ≡ left′)
-facts-unique words arities n at lent p q = puts-unique p q
+facts-one words arities n at lent p q = puts-one p q

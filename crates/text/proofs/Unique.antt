@@ -4,6 +4,6 @@ use mathlib.Core.Path.{_≡_, sym, _∙_}
 use mathlib.Core.List.{List}
 use Rattle.text.specs.Puts.{Puts}
 
-pub puts-unique : {text lent left left′ : List ℕ} {at next next′ : ℕ} → Puts text at lent next left → Puts text at lent next′ left′
+pub puts-one : {text lent left left′ : List ℕ} {at next next′ : ℕ} → Puts text at lent next left → Puts text at lent next′ left′
     → (next ≡ next′) × (left ≡ left′)
-puts-unique p q = (p .place ∙ sym (q .place), p .bytes ∙ sym (q .bytes))
+puts-one p q = (p .place ∙ sym (q .place), p .bytes ∙ sym (q .bytes))
