@@ -105,7 +105,7 @@ fn told(job: &[u8], words: &[u32], answer: RunAnswer) -> usize {
 }
 
 // The listing of a job, and with it its storage where that is asked for; whether it was written whole.
-pub fn list(job: &[u8], stored: bool) -> bool {
+pub(crate) fn list(job: &[u8], stored: bool) -> bool {
     let mut words = [7u32; 9224];
     let mut ranks = [7u16; 520];
     let answer = engine::run(job, &mut words, &mut ranks);

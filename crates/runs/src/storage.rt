@@ -57,7 +57,7 @@ fn zeros(words: &[u32]) -> usize {
 }
 
 // The storage of a run whose facts take so many words; whether it was written whole.
-pub fn show(words: &[u32], ranks: &[u16], used: usize) -> bool {
+pub(crate) fn show(words: &[u32], ranks: &[u16], used: usize) -> bool {
     if 9216 < used || words.len() < 9216 {
         return false;
     }
