@@ -11,7 +11,7 @@ use Rattle.model.specs.Job.{Got, got, refused, Reader, after, pick, times, fiel
 use Rattle.fields.specs.declared.Refusal.{Refusal}
 use Rattle.fields.specs.declared.Step.{Step}
 use Rattle.fields.specs.declared.Step.the-variants as S
-use Rattle.fields.specs.Means.{refusalIn, ofStep, held}
+use Rattle.fields.specs.Means.{refusalIn, ofStep, within, held}
 
 -- ---- a field that the job holds whole, and one that it ends in
 module _ (n : ℕ) (v : List ℕ → ℕ → ℕ) (bs : List ℕ) (at : ℕ) where
@@ -59,6 +59,13 @@ kept b n p at k e = rw e
 pub lost : {B : Type 0} (b : Bool) (n p at : ℕ) (k : Unit {0} → ℕ → Got B) → b ≡ false → refused n p ≡ after (pick b (got tt at) (refused n p)) k
 unfolding after pick
 lost b n p at k e = rw e
+
+-- a number from zero on has one test
+pub from-zero : (g h : Got ℕ) (hi start : ℕ) → g ≡ h →
+    within 0 hi start g ≡ after h (λ x p. after (pick (leb x hi) (got (tt {0}) p) (refused 6 start)) (λ u q. got x q))
+unfolding within after
+from-zero (got x p) h hi start e = rw (← e) (sym (kept _ _ _ _ _ (le-leb 0 x (omega arith))))
+from-zero (refused n p) h hi start e = rw (← e)
 
 -- a choice
 pub picked : {A : Type 0} (b : Bool) (x y : A) → b ≡ true → x ≡ pick b x y

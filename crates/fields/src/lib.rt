@@ -3,7 +3,7 @@
 ghost use mathlib.Core.Path.{_≡_};
 ghost use Prim.Native.Nat.{ℕ, _+_, _*_};
 ghost use Rattle.model.specs.Job.{got, refused, readByte, readHalf, readWord, readCount, readNumber, readUpTo, readMark, readVersion, readEnd};
-ghost use Rattle.fields.specs.Means.{refusalIn, ofField, ofStep};
+ghost use Rattle.fields.specs.Means.{refusalIn, ofField, ofStep, within};
 
 // A place in the job.
 pub struct Cursor {
@@ -62,6 +62,22 @@ impl Field {
                 place: 0,
             },
         }
+    }
+
+    // A field whose number is from low to high; refusal 6 at its start otherwise.
+    fn within(self, low: u32, high: u32, start: usize) -> Self
+        ensures { λ r. ⌜ ofField r ≡ within low high start (ofField self) ⌝ }
+    {
+        let Field::Value(x, next) = self else {
+            return self;
+        };
+        if x < low {
+            return Field::fault(6, start);
+        }
+        if high < x {
+            return Field::fault(6, start);
+        }
+        Field::Value(x, next)
     }
 }
 
@@ -167,17 +183,8 @@ impl Cursor {
         ensures { λ r. ⌜ ofField r ≡ readCount low high (now (s .entry)) (self .at) ⌝ }
     {
         let start = self.at;
-        let read = self.byte(s);
-        let Field::Value(x, next) = read else {
-            return Field::Refused(read.refusal());
-        };
-        if x < low {
-            return Field::fault(6, start);
-        }
-        if high < x {
-            return Field::fault(6, start);
-        }
-        Field::Value(x, next)
+        let byte = self.byte(s);
+        byte.within(low, high, start)
     }
 
     // A number of two bytes, up to high.
@@ -185,15 +192,8 @@ impl Cursor {
         ensures { λ r. ⌜ ofField r ≡ readNumber high (now (s .entry)) (self .at) ⌝ }
     {
         let start = self.at;
-        let read = self.half(s);
-        let Field::Value(n, next) = read else {
-            return Field::Refused(read.refusal());
-        };
-        if n <= high {
-            Field::Value(n, next)
-        } else {
-            Field::fault(6, start)
-        }
+        let half = self.half(s);
+        half.within(0, high, start)
     }
 
     // A number of four bytes, up to high.
@@ -201,15 +201,8 @@ impl Cursor {
         ensures { λ r. ⌜ ofField r ≡ readUpTo high (now (s .entry)) (self .at) ⌝ }
     {
         let start = self.at;
-        let read = self.word(s);
-        let Field::Value(x, next) = read else {
-            return Field::Refused(read.refusal());
-        };
-        if x <= high {
-            Field::Value(x, next)
-        } else {
-            Field::fault(6, start)
-        }
+        let word = self.word(s);
+        word.within(0, high, start)
     }
 
     // The mark.

@@ -19,12 +19,12 @@ use Rattle.text.specs.Puts.{Puts}
 use Rattle.text.proofs.Puts.{puts-length}
 use Rattle.text.specs.Listing.{firstLine, secondLine}
 use Rattle.chase.specs.declared.outcome.Ending.{Ending}
+use Rattle.chase.specs.Turned.{outcomeOf}
 use Rattle.engine.specs.declared.answer.RunAnswer.{RunAnswer}
 use Rattle.engine.specs.declared.answer.RunAnswer.the-variants.{Refused, Ran}
 use Rattle.engine.specs.Answers.{runAnswerOf}
 use Rattle.engine.specs.Demands as demands
 use Rattle.job.proofs.Accepted.{judged-within}
-use Rattle.print.specs.Print.{endingOf}
 use Rattle.text.proofs.Short.{first-line-short, second-line-short, listing-ran}
 use Rattle.lines.specs.Rows.{Rows, arityIn}
 use Rattle.lines.proofs.Rows.{lines-short}
@@ -145,10 +145,10 @@ module _ (bs words ranks : List ℕ) (few : length words ≡ paper.instanceWords
   same-job = rw (few, also)
 
   pub printed : {words′ ranks′ : List ℕ} {r : RunAnswer} → demands.Ran bs words ranks (runAnswerOf r) words′ ranks′ → (o : Ending) (n m k : ℕ) (a : Bool) (x : ℕ)
-      → r ≡ Ran o n m k a x → Printed bs words′ (endingOf o) n m k a x
+      → r ≡ Ran o n m k a x → Printed bs words′ (outcomeOf o) n m k a x
   printed c o n m k a x e =
-      let l = ran-listing (judged false bs) (endingOf o) n m k a x (ap runAnswerOf (sym e) ∙ (c .answers ∙ ap paper.runAnswer same-job)) in
-      printed-job bs _ (endingOf o) n m k a x l
+      let l = ran-listing (judged false bs) (outcomeOf o) n m k a x (ap runAnswerOf (sym e) ∙ (c .answers ∙ ap paper.runAnswer same-job)) in
+      printed-job bs _ (outcomeOf o) n m k a x l
       (c .leaves-words ∙ (ap (paper.wordsAfter words) (same-job ∙ l .from) ∙ words-left (l .job) (l .place) words few))
 
   pub refused-printed : {words′ ranks′ : List ℕ} {r : RunAnswer} → demands.Ran bs words ranks (runAnswerOf r) words′ ranks′ → (n p : ℕ) → r ≡ Refused n p

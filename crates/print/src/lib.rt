@@ -1,7 +1,8 @@
 // The listing of a job as bytes: the run's answer, its first two lines and a line for each fact, or the refusal alone. Promised is that exactly
 // the paper's listing is set. Assumes 102,400 lent bytes, which are always enough.
+use chase::outcome::Ending;
 use engine::answer::RunAnswer;
-use text::listing::Ending;
+use text::listing::Word;
 ghost use mathlib.Core.Path.{_≡_};
 ghost use mathlib.Core.List.{_++_};
 ghost use Prim.Native.Nat.{_+_, _≤_};
@@ -10,20 +11,20 @@ ghost use Rattle.model.specs.Words.{padded, factsOf};
 ghost use Rattle.model.specs.Lines.{lines};
 ghost use Rattle.model.specs.Answer.{listingOf};
 ghost use Rattle.io.specs.Counts.{Counts};
+ghost use Rattle.chase.specs.Turned.{outcomeOf};
 ghost use Rattle.text.specs.Puts.{Puts};
-ghost use Rattle.text.specs.Listing.{outcomeOf, firstLine, secondLine};
+ghost use Rattle.text.specs.Listing.{outcomeSaid, firstLine, secondLine};
 ghost use Rattle.lines.specs.Rows.{Rows, arityIn};
-ghost use Rattle.print.specs.Print.{endingOf};
 
 // The word of an ending.
-fn word_of(ending: chase::outcome::Ending) -> Ending
-    ensures { λ r. ⌜ outcomeOf r ≡ endingOf ending ⌝ }
+fn word_of(ending: Ending) -> Word
+    ensures { λ r. ⌜ outcomeSaid r ≡ outcomeOf ending ⌝ }
 {
     match ending {
-        chase::outcome::Ending::Done => Ending::Done,
-        chase::outcome::Ending::Failed => Ending::Failed,
-        chase::outcome::Ending::Steps => Ending::Steps,
-        chase::outcome::Ending::Room => Ending::Room,
+        Ending::Done => Word::Done,
+        Ending::Failed => Word::Failed,
+        Ending::Steps => Word::Steps,
+        Ending::Room => Word::Room,
     }
 }
 
@@ -46,7 +47,7 @@ fn ran(
     out: &mut [u8],
     words: &[u32],
     table: &[u8],
-    ending: chase::outcome::Ending,
+    ending: Ending,
     steps: usize,
     facts: usize,
     next: u32,
@@ -55,7 +56,7 @@ fn ran(
 ) -> usize
     requires { ⌜ Rows (now words) (now table) facts ⌝ }
     requires { ⌜ (facts ≤ 1024) × (102400 ≤ length (now out)) ⌝ }
-    ensures { λ r. ⌜ Puts (firstLine (endingOf ending) steps facts next ++ (secondLine acyclic generations ++ lines (factsOf (arityIn (now (table .entry))) facts (now (words .entry))))) 0 (now (out .entry)) r (now (out .exit)) ⌝ }
+    ensures { λ r. ⌜ Puts (firstLine (outcomeOf ending) steps facts next ++ (secondLine acyclic generations ++ lines (factsOf (arityIn (now (table .entry))) facts (now (words .entry))))) 0 (now (out .entry)) r (now (out .exit)) ⌝ }
 {
     let word = word_of(ending);
     let a = text::listing::first_line(&mut *out, 0, word, steps as u64, facts as u64, next as u64);

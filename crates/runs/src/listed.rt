@@ -1,10 +1,11 @@
 // A job's run in storage that is lent eight words longer than it needs and filled with sevens, and its listing, one fact after the other by the
 // line writer.
 use crate::storage;
+use chase::outcome::Ending;
 use engine::answer::RunAnswer;
 use libc::STDOUT_FILENO;
 use lines::Written;
-use text::listing::Ending;
+use text::listing::Word;
 
 // The first bytes of a line.
 fn put(line: &[u8], n: usize) -> bool {
@@ -14,12 +15,12 @@ fn put(line: &[u8], n: usize) -> bool {
     io::write_all(STDOUT_FILENO, &line[0..n])
 }
 
-fn word_of(ending: chase::outcome::Ending) -> Ending {
+fn word_of(ending: Ending) -> Word {
     match ending {
-        chase::outcome::Ending::Done => Ending::Done,
-        chase::outcome::Ending::Failed => Ending::Failed,
-        chase::outcome::Ending::Steps => Ending::Steps,
-        chase::outcome::Ending::Room => Ending::Room,
+        Ending::Done => Word::Done,
+        Ending::Failed => Word::Failed,
+        Ending::Steps => Word::Steps,
+        Ending::Room => Word::Room,
     }
 }
 

@@ -4,15 +4,15 @@ use mathlib.Core.Bool.{Bool}
 use mathlib.Core.List.{List, [], _∷_, _++_}
 use Rattle.model.specs.Chase as paper
 use Rattle.model.specs.Answer.{outcomeText, verdictText, behind}
-use Rattle.text.specs.declared.listing.Ending.{Ending}
-use Rattle.text.specs.declared.listing.Ending.the-variants.{Done, Failed, Steps, Room}
+use Rattle.text.specs.declared.listing.Word.{Word}
+use Rattle.text.specs.declared.listing.Word.the-variants.{Done, Failed, Steps, Room}
 
--- the paper's outcome
-abbrev pub outcomeOf : Ending → paper.Outcome
-outcomeOf Done = paper.done
-outcomeOf Failed = paper.failed
-outcomeOf Steps = paper.steps
-outcomeOf Room = paper.room
+-- the paper's outcome that a word says
+abbrev pub outcomeSaid : Word → paper.Outcome
+outcomeSaid Done = paper.done
+outcomeSaid Failed = paper.failed
+outcomeSaid Steps = paper.steps
+outcomeSaid Room = paper.room
 
 -- first line: outcome, steps, facts, next blank
 unfoldable pub firstLine : paper.Outcome → ℕ → ℕ → ℕ → List ℕ

@@ -6,10 +6,10 @@ ghost use Prim.Native.Nat.{_+_, _≤_};
 ghost use lib.ListN.{length};
 ghost use Rattle.model.specs.Answer.{outcomeText, verdictText, refusedText};
 ghost use Rattle.text.specs.Puts.{Puts};
-ghost use Rattle.text.specs.Listing.{outcomeOf, firstLine, secondLine};
+ghost use Rattle.text.specs.Listing.{outcomeSaid, firstLine, secondLine};
 
-// How a run ended.
-pub enum Ending {
+// The word for how a run ended.
+pub enum Word {
     Done,
     Failed,
     Steps,
@@ -17,15 +17,15 @@ pub enum Ending {
 }
 
 // The outcome's word.
-fn outcome(lent: &mut [u8], at: usize, ending: Ending) -> usize
+fn outcome(lent: &mut [u8], at: usize, word: Word) -> usize
     requires { ⌜ at + 7 ≤ length (now lent) ⌝ }
-    ensures { λ r. ⌜ Puts (outcomeText (outcomeOf ending)) at (now (lent .entry)) r (now (lent .exit)) ⌝ }
+    ensures { λ r. ⌜ Puts (outcomeText (outcomeSaid word)) at (now (lent .entry)) r (now (lent .exit)) ⌝ }
 {
-    match ending {
-        Ending::Done => bytes(lent, at, b"done"),
-        Ending::Failed => bytes(lent, at, b"failed"),
-        Ending::Steps => bytes(lent, at, b"steps"),
-        Ending::Room => bytes(lent, at, b"room"),
+    match word {
+        Word::Done => bytes(lent, at, b"done"),
+        Word::Failed => bytes(lent, at, b"failed"),
+        Word::Steps => bytes(lent, at, b"steps"),
+        Word::Room => bytes(lent, at, b"room"),
     }
 }
 
@@ -45,15 +45,15 @@ fn verdict(lent: &mut [u8], at: usize, acyclic: bool) -> usize
 pub fn first_line(
     lent: &mut [u8],
     at: usize,
-    ending: Ending,
+    word: Word,
     steps: u64,
     facts: u64,
     next: u64,
 ) -> usize
     requires { ⌜ at + 128 ≤ length (now lent) ⌝ }
-    ensures { λ r. ⌜ Puts (firstLine (outcomeOf ending) steps facts next) at (now (lent .entry)) r (now (lent .exit)) ⌝ }
+    ensures { λ r. ⌜ Puts (firstLine (outcomeSaid word) steps facts next) at (now (lent .entry)) r (now (lent .exit)) ⌝ }
 {
-    let a = outcome(&mut *lent, at, ending);
+    let a = outcome(&mut *lent, at, word);
     let b = behind(&mut *lent, a, steps);
     let c = behind(&mut *lent, b, facts);
     let d = behind(&mut *lent, c, next);

@@ -6,7 +6,7 @@ use Prim.Native.Nat.{ℕ}
 use native.Mathlib.Omega.{arith}
 use Rattle.model.specs.Chase.{Outcome}
 use Rattle.text.specs.Puts.{Puts}
-use Rattle.text.specs.Listing.{outcomeOf, firstLine}
+use Rattle.text.specs.Listing.{outcomeSaid, firstLine}
 use Rattle.text.proofs.Puts.{puts-length, puts-append}
 use Rattle.text.proofs.Short.{first-line-short, second-line-short}
 use Rattle.print.proofs.ran.Statement.{statement}
@@ -28,7 +28,7 @@ second-line-requires c κs =
     let s = c .before .before .before .before .before .before .before .before .before in
     let p = c .before .before .before .first-line .ensures in
     let a = s .args in
-    omega (arith, s .pre .1, p .place, puts-length p, first-line-short (outcomeOf (c .before .before .before .before .before .word-of .result)) (a .steps) (a .facts) (a .next))
+    omega (arith, s .pre .1, p .place, puts-length p, first-line-short (outcomeSaid (c .before .before .before .before .before .word-of .result)) (a .steps) (a .facts) (a .next))
 
 facts-requires : tie.Need-facts-requires
 facts-requires c κs =
@@ -37,7 +37,7 @@ facts-requires c κs =
     let q = c .before .before .before .second-line .ensures in
     let a = s .args in (
       s .pre .0,
-      omega (arith, s .pre .1, p .place, puts-length p, q .place, puts-length q, first-line-short (outcomeOf (c .before .before .before .before .before .before .before .before .before .word-of .result)) (a .steps) (a .facts) (a .next), second-line-short (a .acyclic) (a .generations)),
+      omega (arith, s .pre .1, p .place, puts-length p, q .place, puts-length q, first-line-short (outcomeSaid (c .before .before .before .before .before .before .before .before .before .word-of .result)) (a .steps) (a .facts) (a .next), second-line-short (a .acyclic) (a .generations)),
     )
 
 same-length : tie.Need-same-length

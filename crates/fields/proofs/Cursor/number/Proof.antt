@@ -1,9 +1,7 @@
 -- `fields::Cursor::number` meets its contract. Assumes nothing.
-use mathlib.Core.Path.{ap, _∙_}
-use borrow.Author.Tests.{le-leb, lt-leb}
+use mathlib.Core.Path.{_∙_}
 use Rattle.model.specs.Job.{readNumber}
-use Rattle.fields.specs.Means.{ofField}
-use Rattle.fields.proofs.Laws.{handed, goes, kept, lost}
+use Rattle.fields.proofs.Laws.{from-zero}
 use borrow.Author.Needs.{needs}
 use Rattle.fields.proofs.Cursor.number.Statement.{statement}
 use Rattle.fields.proofs.Cursor.number.Tie as tie
@@ -11,44 +9,12 @@ use Rattle.fields.proofs.Cursor.number.Tie as tie
 half-requires : tie.Need-half-requires
 half-requires c κs = search needs
 
-enum-known-read : tie.Need-enum-known-read
-enum-known-read c = search needs
-
-enum-told : tie.Need-enum-told
-enum-told c = search needs
-
-refusal-requires : tie.Need-refusal-requires
-refusal-requires c κs = search needs
+within-requires : tie.Need-within-requires
+within-requires c κs = search needs
 
 returns : tie.Need-returns
 unfolding readNumber
-returns c = handed _ _ _ _ _ (c .refusal .ensures) (c .before .before .before .half .ensures) (ap ofField (c .before .enum-told .given .1))
-
-fault-requires : tie.Need-fault-requires
-fault-requires c κs = search needs
-
-returns-2 : tie.Need-returns-2
-unfolding readNumber
-returns-2 c =
-    kept _ _ _ _ _ (le-leb _ _ (c .if1 .taken))
-    ∙ goes _ _ _ _ _ (c .before .before .before .before .half .ensures) (ap ofField (c .before .before .read .given .1))
-
-returns-3 : tie.Need-returns-3
-unfolding readNumber
-returns-3 c =
-    c .fault .ensures
-    ∙ (lost _ _ _ _ _ (lt-leb _ _ (c .before .if1 .left))
-    ∙ goes _ _ _ _ _ (c .before .before .before .before .before .half .ensures) (ap ofField (c .before .before .before .read .given .1)))
+returns c = c .within .ensures ∙ from-zero _ _ _ _ (c .before .half .ensures)
 
 pub number-spec : {M : Type 1} → statement M
-number-spec =
-    tie.close
-    (tie.spec
-    half-requires
-    enum-known-read
-    enum-told
-    refusal-requires
-    returns
-    fault-requires
-    returns-2
-    returns-3)
+number-spec = tie.close (tie.spec half-requires within-requires returns)

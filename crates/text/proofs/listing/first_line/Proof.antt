@@ -3,7 +3,7 @@ use borrow.Author.Needs.{needs}
 use native.Mathlib.Omega.{arith}
 use Rattle.text.proofs.Puts.{puts-append, space-left}
 use Rattle.text.proofs.Short.{outcome-short, behind-short}
-use Rattle.text.specs.Listing.{outcomeOf, firstLine}
+use Rattle.text.specs.Listing.{outcomeSaid, firstLine}
 use Rattle.text.proofs.listing.first_line.Statement.{statement}
 use Rattle.text.proofs.listing.first_line.Tie as tie
 
@@ -14,7 +14,7 @@ behind-requires : tie.Need-behind-requires
 behind-requires c κs =
     let word = c .before .before .before in
     let s = word .before .before .before in
-    let o = space-left 7 121 (word .outcome .ensures) (outcome-short (outcomeOf (s .args .ending))) (s .pre) in
+    let o = space-left 7 121 (word .outcome .ensures) (outcome-short (outcomeSaid (s .args .word))) (s .pre) in
     omega (arith, behind-short (s .args .steps))
 
 behind-requires-2 : tie.Need-behind-requires-2
@@ -22,7 +22,7 @@ behind-requires-2 c κs =
     let first = c .before .before .before in
     let word = first .before .before .before .before in
     let s = word .before .before .before in
-    let o = space-left 7 121 (word .outcome .ensures) (outcome-short (outcomeOf (s .args .ending))) (s .pre) in
+    let o = space-left 7 121 (word .outcome .ensures) (outcome-short (outcomeSaid (s .args .word))) (s .pre) in
     let a = space-left 11 110 (first .behind .ensures) (behind-short _) o in
     omega (arith, behind-short (s .args .facts))
 
@@ -32,7 +32,7 @@ behind-requires-3 c κs =
     let first = second .before .before .before .before in
     let word = first .before .before .before .before in
     let s = word .before .before .before in
-    let o = space-left 7 121 (word .outcome .ensures) (outcome-short (outcomeOf (s .args .ending))) (s .pre) in
+    let o = space-left 7 121 (word .outcome .ensures) (outcome-short (outcomeSaid (s .args .word))) (s .pre) in
     let a = space-left 11 110 (first .behind .ensures) (behind-short _) o in
     let b = space-left 11 99 (second .behind2 .ensures) (behind-short _) a in
     omega (arith, behind-short (s .args .next))
@@ -44,7 +44,7 @@ byte-requires c κs =
     let first = second .before .before .before .before in
     let word = first .before .before .before .before in
     let s = word .before .before .before in
-    let o = space-left 7 121 (word .outcome .ensures) (outcome-short (outcomeOf (s .args .ending))) (s .pre) in
+    let o = space-left 7 121 (word .outcome .ensures) (outcome-short (outcomeSaid (s .args .word))) (s .pre) in
     let a = space-left 11 110 (first .behind .ensures) (behind-short _) o in
     let b = space-left 11 99 (second .behind2 .ensures) (behind-short _) a in
     let d = space-left 11 88 (third .behind3 .ensures) (behind-short _) b in
