@@ -39,7 +39,3 @@ field-one g r s e f = field-same r s (e ∙ sym f)
 -- `Cursor::mark`, `version`, `end`, and every step that stands beside what was read
 pub step-one : {A : Type 0} (g : Got A) (r s : Step) (a b : A) → ofStep r a ≡ g → ofStep s b ≡ g → r ≡ s
 step-one g r s a b e f = step-same r s a b (e ∙ sym f)
-
--- `Cursor::new`, `Refusal::new`, `Field::refusal`, `Step::refusal`, and every answer that is said to be a value
-pub value-one : {A : Type 0} (x r s : A) → r ≡ x → s ≡ x → r ≡ s
-value-one x r s e f = e ∙ sym f

@@ -1,7 +1,7 @@
 // The fields of a job, each read at a cursor: its value with the next cursor, or the refusal. Nothing is assumed of bytes or cursor.
 // Each answer means what the paper's reader of that field gives, so there is one answer for every job and place.
 ghost use mathlib.Core.Path.{_≡_};
-ghost use Prim.Native.Nat.{ℕ, _+_, _*_};
+ghost use Prim.Native.Nat.{_+_, _*_};
 ghost use Rattle.model.specs.Job.{got, refused, readByte, readHalf, readWord, readCount, readNumber, readUpTo, readMark, readVersion, readEnd};
 ghost use Rattle.fields.specs.Means.{refusalIn, ofField, ofStep, within};
 

@@ -6,3 +6,4 @@ pub mod Stores
 pub mod Parts
 pub mod Zeros
 pub mod Pigeon
+pub mod Unique

@@ -2,8 +2,9 @@
 use Prim.Native.Nat.{ℕ, _≤_, _<_}
 use mathlib.Core.Path.{_≡_, refl, ap, _∙_}
 use mathlib.Core.Bool.{Bool, true, false, _||_, true≢false, or-true}
-use mathlib.Core.Logic.{_⊎_, inl, inr}
+use mathlib.Core.Logic.{_⊎_, inl, inr, ⊎-elim}
 use lib.Dec.{eqb, ltb}
+use native.Mathlib.Omega.{arith}
 use borrow.Author.Tests.{ltb-true, ltb-false, eqb-true, eqb-false}
 
 pub lt-or-ge : (m n : ℕ) → (m < n) ⊎ (n ≤ m)
@@ -19,6 +20,15 @@ eq-or-ne m n = go (eqb m n) refl
     go : (t : Bool) → eqb m n ≡ t → (m ≡ n) ⊎ (m ≡ n → ⊥)
     go true e = inl (eqb-true m n e)
     go false e = inr (eqb-false m n e)
+
+-- numbers compare in one of three ways
+pub data Compared (m n : ℕ) : Type 0 where
+  less : m < n → Compared m n
+  same : m ≡ n → Compared m n
+  more : n < m → Compared m n
+
+pub compared : (m n : ℕ) → Compared m n
+compared m n = ⊎-elim less (λ le. ⊎-elim more (λ ge. same (omega arith)) (lt-or-ge n m)) (lt-or-ge m n)
 
 -- one of two tests
 module _ (a b : Bool) where

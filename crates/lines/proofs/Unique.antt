@@ -1,15 +1,10 @@
--- What the line writers promise leaves one answer and one content of the lent bytes. Assumes nothing.
+-- What the line writer promises leaves one answer and one content of the lent bytes. Assumes nothing.
 use Prim.Native.Nat.{ℕ}
 use mathlib.Core.Path.{_≡_, sym, _∙_}
 use mathlib.Core.List.{List}
-use Rattle.model.specs.Words.{factsOf}
-use Rattle.model.specs.Lines.{lines}
-use Rattle.text.specs.Puts.{Puts}
-use Rattle.text.proofs.Unique.{puts-one}
 use Rattle.lines.specs.declared.Written.{Written}
 use Rattle.lines.specs.declared.Written.the-variants.{Refused, Wrote}
 use Rattle.lines.specs.Line.{ofWritten, LineContract}
-use Rattle.lines.specs.Rows.{arityIn}
 
 -- two answers that mean the same are the same
 pub same-written : (r r′ : Written) → ofWritten r ≡ ofWritten r′ → r ≡ r′
@@ -21,7 +16,3 @@ same-written (Wrote n) (Refused n′ p′) e = cc
 pub line-one : (words : List ℕ) (arity : ℕ) (lent : List ℕ) {r r′ : Written} {left left′ : List ℕ} → LineContract words arity lent r left
     → LineContract words arity lent r′ left′ → (r ≡ r′) × (left ≡ left′)
 line-one words arity lent {r} {r′} p q = (same-written r r′ (p .answers ∙ sym (q .answers)), p .leaves ∙ sym (q .leaves))
-
-pub facts-one : (words arities : List ℕ) (n at : ℕ) (lent : List ℕ) {r r′ : ℕ} {left left′ : List ℕ} → Puts (lines (factsOf (arityIn arities) n words)) at lent r left
-    → Puts (lines (factsOf (arityIn arities) n words)) at lent r′ left′ → (r ≡ r′) × (left ≡ left′)
-facts-one words arities n at lent p q = puts-one p q

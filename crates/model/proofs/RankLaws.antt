@@ -180,6 +180,13 @@ module _ (n : ℕ) (g : List Edge) (within : Within n g) where
       still-closed n g (ranks n g) (λ e i. let l = within e i .1 in let k = ranks-good .long in omega arith)
       (settle-still n g (suc (n * n)) (replicate n 0) (start-good n g) (omega arith))
 
+  -- a number up to n that no position has
+  unused : (k : ℕ) × (k ≤ n) × ((w : ℕ) → w < n → value (ranks n g) w ≡ k → ⊥)
+  unused =
+      let k = gap (ranks n g) in
+      let long = ranks-good .long in
+      (k .0, omega (arith, k .1), λ w l e. k .2 (cast-in (sym e) (in-at (ranks n g) w 0 (omega arith))))
+
   -- below n stands the rank, and n stands where there is no largest
   pub ranks-right : (v : ℕ) → v < n → ((value (ranks n g) v < n) × IsRank g v (value (ranks n g) v)) ⊎ ((value (ranks n g) v ≡ n) × Infinite g v)
   ranks-right v h = go (decLt (value r v) n)
@@ -187,22 +194,15 @@ module _ (n : ℕ) (g : List Edge) (within : Within n g) where
       r : List ℕ
       r = ranks n g
 
-      k : (k : ℕ) × (k ≤ length r) × (k ∈ r → ⊥)
-      k = gap r
-
-      free : (w : ℕ) → w < n → value r w ≡ k .0 → ⊥
-      free w l e = k .2 (cast-in (sym e) (in-at r w 0 (let q = ranks-good .long in omega arith)))
-
       go : Dec (value r v < n) → ((value r v < n) × IsRank g v (value r v)) ⊎ ((value r v ≡ n) × Infinite g v)
       go (yes l) = inl (l, finite n g r ranks-closed (ranks-good .sound) v l)
       go (no l) =
           let q = ranks-good .capped v in
           let e : value r v ≡ n = omega arith in
+          let (k, most, free) = unused in
           let f = free v h in
-          let b = k .1 in
-          let z = ranks-good .long in
-          let lt : k .0 < value r v = omega arith in
-          inr (e, λ m. endless n g r ranks-closed (k .0) (omega arith) (λ e′ i. free (source e′) (within e′ i .0)) (ranks-good .sound) m v lt)
+          let lt : k < value r v = omega arith in
+          inr (e, λ m. endless n g r ranks-closed k (omega arith) (λ e′ i. free (source e′) (within e′ i .0)) (ranks-good .sound) m v lt)
 
 -- the rank is one number, and finite ranks and infinite ones exclude each other
 
@@ -260,22 +260,11 @@ module _ (n : ℕ) (g : List Edge) (within : Within n g) where
   -- no cycle with a special edge: no position without a largest number
   pub acyclic-finite : WeaklyAcyclic g → (v : ℕ) → v < n → value (ranks n g) v ≡ n → ⊥
   acyclic-finite wa v h top =
-      descend n r (ranks-closed n g within) (k .0) (omega (arith, k .1, len)) (λ e i. free (source e) (within e i .0))
+      let (k, most, free) = unused n g within in
+      descend n (ranks n g) (ranks-closed n g within) k most (λ e i. free (source e) (within e i .0))
       wa (ranks-good n g within .sound) (length (upto n)) (upto n) (le-refl (length (upto n))) v
-      (let f = free v h in omega (arith, k .1, len))
+      (let f = free v h in omega arith)
       (λ a j lt h′ p. upto-mem n a lt)
-    where
-      r : List ℕ
-      r = ranks n g
-
-      len : length r ≡ n
-      len = ranks-good n g within .long
-
-      k : (k : ℕ) × (k ≤ length r) × (k ∈ r → ⊥)
-      k = gap r
-
-      free : (w : ℕ) → w < n → value r w ≡ k .0 → ⊥
-      free w l e = k .2 (cast-in (sym e) (in-at r w 0 (omega (arith, len))))
 
   -- weakly acyclic: no position is infinite
   pub acyclic-iff : WeaklyAcyclic g ↔ ((v : ℕ) → v < n → Infinite g v → ⊥)

@@ -1,12 +1,11 @@
--- The first match that passes a test, found depth first: one atom after the other, one fact after the other. These are the laws by which
--- a search function for an atom and one for a candidate fact, which call each other, are proved. Assumes nothing.
+-- The first match that passes a test, found depth first: one atom after the other, one fact after the other. Assumes nothing.
 use mathlib.Core.Path.{_≡_, refl}
 use mathlib.Core.Bool.{Bool, true, false, cond}
 use mathlib.Core.Option.{Option, none, some}
 use mathlib.Core.List.{List, [], _∷_, _++_}
 use Rattle.model.specs.Facts.{Fact}
 use Rattle.model.specs.Rules.{Atom}
-use Rattle.model.specs.Match.{Env, fit, consider, fits, gather, matches, isEmpty, first}
+use Rattle.model.specs.Match.{Env, fit, consider, fits, gather, matches, first}
 
 -- what the atoms find from e on, and what the first atom finds among the facts that are left
 pub atomsFind : (Env → Bool) → List Fact → List Atom → Env → Option Env
@@ -30,34 +29,13 @@ first-append test (e ∷ es) ds = go (test e) (first-append test es ds)
     go false ih = ih
 
 module _ (test : Env → Bool) (inst : List Fact) where
-  -- no atom is left: the test decides
-  pub no-atoms : (e : Env) → atomsFind test inst [] e ≡ cond (test e) (some e) none
-  unfolding atomsFind matches first
-  no-atoms e = refl
-
   -- an atom tries all the facts
   pub next-atom : (a : Atom) (ats : List Atom) (e : Env) → atomsFind test inst (a ∷ ats) e ≡ factsFind test inst a ats inst e
   unfolding atomsFind factsFind matches
   next-atom a ats e = refl
-
-  pub no-facts : (a : Atom) (ats : List Atom) (e : Env) → factsFind test inst a ats [] e ≡ none
-  unfolding factsFind fits gather first
-  no-facts a ats e = refl
-
-  -- a fact that does not fit is passed over
-  pub no-fit : (a : Atom) (ats : List Atom) (f : Fact) (fs : List Fact) (e : Env) → fit a f e ≡ none
-      → factsFind test inst a ats (f ∷ fs) e ≡ factsFind test inst a ats fs e
-  unfolding factsFind fits consider
-  no-fit a ats f fs e p = rw p
 
   -- a fact that fits hands on to the next atom, and the later facts are tried where that finds nothing
   pub hands-on : (a : Atom) (ats : List Atom) (f : Fact) (fs : List Fact) (e d : Env) → fit a f e ≡ some d
       → factsFind test inst a ats (f ∷ fs) e ≡ orElse (atomsFind test inst ats d) (factsFind test inst a ats fs e)
   unfolding factsFind atomsFind fits consider gather
   hands-on a ats f fs e d p = rw p (first-append test (matches inst ats d) (gather (λ c. matches inst ats c) (fits a fs e)))
-
--- a head is answered exactly where the search without a test finds something
-pub found-or-empty : (es : List Env) → isEmpty es ≡ elim (first (λ e. true) es) [ none ↦ true | some e ↦ false ]
-unfolding isEmpty first
-found-or-empty [] = refl
-found-or-empty (e ∷ es) = refl

@@ -1,4 +1,3 @@
 pub mod Laws
 pub mod Heads
 pub mod Answers
-pub mod Unique

@@ -3,4 +3,3 @@ pub mod Turns
 pub mod Sweeps
 pub mod Levels
 pub mod Answers
-pub mod Unique

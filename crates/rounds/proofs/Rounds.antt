@@ -4,10 +4,10 @@ use mathlib.Core.Logic.{_⊎_, inl, inr, ⊎-elim}
 use mathlib.Core.Bool.{Bool, true, false}
 use mathlib.Core.List.{List, [], _∷_, List·Memᴰ·head as here, List·Memᴰ·tail as there, List·Memᴰ·not-nil as not-in-nil, List·Memᴰ·cases-cons as cases-cons}
 use Prim.Native.Nat.{ℕ, zero, suc, _-_, _≤_, _<_, min, max, zero-le}
-use native.Mathlib.Nat.{le-trans, le-of-suc-le-suc, not-suc-le-zero}
+use native.Mathlib.Nat.{le-trans, not-suc-le-zero}
 use native.Mathlib.Omega.{arith}
 use lib.Dec.{ltb}
-use borrow.Author.Tests.{ltb-true, lt-ltb, le-ltb}
+use borrow.Author.Tests.{ltb-true, lt-ltb}
 use lib.ListN.{length, replicate}
 use Rattle.laws.proofs.Zeros.{zeros-at}
 use Rattle.model.specs.Order.{_∈_}
@@ -17,7 +17,8 @@ use Rattle.model.specs.Ranks.{value, raise, offer, pick}
 use Rattle.model.proofs.Raise.{max-is, raise-cases, raise-at, length-raise, Below, below-refl, below-trans, below-antisym, below-value, raise-below}
 use Rattle.model.proofs.RankLaws.{Sound, Capped, Closed}
 use Rattle.model.proofs.EdgeLaws.{spot, occurs-somewhere, somewhere-occurs, FansEdge, fans-edge, edge-fans}
-use Rattle.rounds.specs.Offers.{lift, mark, top, gives, pour, offers, ruleRound}
+use Rattle.laws.proofs.Maps.{getD-mapped}
+use Rattle.rounds.specs.Offers.{lift, mark, top, lowered, gives, pour, offers, ruleRound}
 
 -- lift
 
@@ -90,14 +91,10 @@ top-at (y ∷ b) (z ∷ h) (suc x) l = let k = top-at b h x l in omega arith
 -- gives
 
 gives-zero : (t : ℕ) (b : List ℕ) (x : ℕ) → x < length b → value b x ≡ 0 → value (gives t b) x ≡ t
-gives-zero t [] x l e = absurd (not-suc-le-zero l)
-gives-zero t (y ∷ b) zero l e = ap (λ (u : Bool). pick u (y - 1) t) (le-ltb 0 y (omega arith))
-gives-zero t (y ∷ b) (suc x) l e = gives-zero t b x (le-of-suc-le-suc l) e
+gives-zero t b x l e = getD-mapped (lowered t) b x 0 0 l ∙ ap (lowered t) e
 
 gives-suc : (t : ℕ) (b : List ℕ) (x v : ℕ) → x < length b → value b x ≡ suc v → value (gives t b) x ≡ v
-gives-suc t [] x v l e = absurd (not-suc-le-zero l)
-gives-suc t (y ∷ b) zero v l e = ap (λ (u : Bool). pick u (y - 1) t) (lt-ltb 0 y (omega arith)) ∙ omega arith
-gives-suc t (y ∷ b) (suc x) v l e = gives-suc t b x v (le-of-suc-le-suc l) e
+gives-suc t b x v l e = getD-mapped (lowered t) b x 0 0 l ∙ ap (lowered t) e ∙ ap (λ (u : Bool). pick u (suc v - 1) t) (lt-ltb 0 (suc v) (omega arith)) ∙ omega arith
 
 -- pour
 

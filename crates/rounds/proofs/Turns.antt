@@ -1,14 +1,14 @@
 -- The loops of a round, turn by turn: what is left, applied to what there is, makes the whole. Assumes nothing.
 use mathlib.Core.Path.{_≡_, refl, sym, ap, ap₂, _∙_}
 use mathlib.Core.Bool.{Bool, false, _||_}
-use mathlib.Core.List.{List, [], _∷_, _++_, append-assoc, append-nil}
-use Prim.Native.Nat.{ℕ, suc, _+_, _-_, _/_, _%_, _≤_, _<_, min, max}
+use mathlib.Core.List.{List, [], _∷_}
+use Prim.Native.Nat.{ℕ, suc, _+_, _/_, _%_, _≤_, _<_, min, max}
 use native.Mathlib.Nat.{le-refl}
 use native.Mathlib.Numerals.{add-one}
 use native.Mathlib.Omega.{arith}
 use lib.Dec.{ltb}
-use lib.ListN.{length, getD, drop, take, set, replicate, drop-of-length-le}
-use lib.Seq.{drop-cons, take-suc-set, drop-set-lt, take-all}
+use lib.ListN.{length, getD, drop, replicate, drop-of-length-le}
+use lib.Seq.{drop-cons}
 use Rattle.laws.proofs.Members.{all-most}
 use Rattle.model.specs.Edges.{Spot}
 use Rattle.model.specs.Ranks.{value, raise, sum, pick}
@@ -90,21 +90,6 @@ top-turn b h i t v n all hb hh e k inv =
 
 pub top-end : (b h : List ℕ) (i t : ℕ) → length b ≤ i → max t (top (drop i b) (drop i h)) ≡ t
 top-end b h i t k = let e : top (drop i b) (drop i h) ≡ 0 = ap (λ (l : List ℕ). top l (drop i h)) (drop-of-length-le b k) in omega arith
-
--- the offers so far, and of what is left
-pub gives-turn : (t : ℕ) (o all : List ℕ) (i v : ℕ) → i < length o → v ≡ pick (ltb 0 (getD o i 0)) (getD o i 0 - 1) t → take i o ++ gives t (drop i o) ≡ all
-    → take (i + 1) (set o i v) ++ gives t (drop (i + 1) (set o i v)) ≡ all
-gives-turn t o all i v h e inv =
-    ap (λ (k : ℕ). take k (set o i v) ++ gives t (drop k (set o i v))) (add-one i)
-    ∙ ap₂ (λ (x y : List ℕ). x ++ gives t y) (take-suc-set o i v h) (drop-set-lt (suc i) o i v (le-refl (suc i)))
-    ∙ append-assoc (take i o) (v ∷ []) (gives t (drop (suc i) o))
-    ∙ ap (λ (n : ℕ). take i o ++ (n ∷ gives t (drop (suc i) o))) e
-    ∙ ap (λ (l : List ℕ). take i o ++ gives t l) (sym (drop-cons o i 0 h))
-    ∙ inv
-
-pub gives-end : (t : ℕ) (o all : List ℕ) (i : ℕ) → length o ≤ i → take i o ++ gives t (drop i o) ≡ all → o ≡ all
-gives-end t o all i h inv =
-    sym (append-nil o) ∙ ap₂ (λ (x y : List ℕ). x ++ gives t y) (sym (take-all i o h)) (sym (drop-of-length-le o h)) ∙ inv
 
 -- the parts of a round, put together
 pub assembled : (c : ℕ) (r : List ℕ) (body head : List Spot) (b h o out : List ℕ) (t m : ℕ) → b ≡ lift (replicate 16 0) r body → h ≡ mark (replicate 16 0) head → t ≡ top b h

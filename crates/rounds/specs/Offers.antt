@@ -1,7 +1,7 @@
 -- One round of a rule: from the ranks at the body's positions what each variable offers, and then the offers at the head's positions. Assumes nothing.
 use Prim.Native.Nat.{ℕ, suc, _-_, _≤_, min, max}
 use mathlib.Core.Path.{_≡_}
-use mathlib.Core.List.{List, [], _∷_}
+use mathlib.Core.List.{List, [], _∷_, map}
 use lib.Dec.{ltb}
 use lib.ListN.{length, replicate}
 use Rattle.model.specs.Edges.{Spot}
@@ -24,10 +24,13 @@ top [] h = 0
 top (y ∷ b) [] = 0
 top (y ∷ b) (z ∷ h) = max (pick (ltb 0 z) y 0) (top b h)
 
--- what a variable offers: the largest rank in the body, or t for an existential
+-- one less than y, or t where y is 0
+abbrev pub lowered : ℕ → ℕ → ℕ
+lowered t y = pick (ltb 0 y) (y - 1) t
+
+-- what each variable offers: the largest rank in the body, or t for an existential
 abbrev pub gives : ℕ → List ℕ → List ℕ
-gives t [] = []
-gives t (y ∷ b) = pick (ltb 0 y) (y - 1) t ∷ gives t b
+gives t b = map (lowered t) b
 
 -- the offers, at the head's positions
 abbrev pub pour : List ℕ → List ℕ → List Spot → List ℕ

@@ -2,12 +2,12 @@
 // Assumes codes below 8,192, and 512 ranks.
 ghost use mathlib.Core.Path.{_≡_};
 ghost use mathlib.Core.Bool.{_||_};
-ghost use Prim.Native.Nat.{_-_, _<_, min};
+ghost use Prim.Native.Nat.{_<_, min};
 ghost use lib.ListN.{length, replicate};
 ghost use lib.Dec.{ltb};
 ghost use Rattle.model.specs.Ranks.{raise, sum, pick};
 ghost use Rattle.rounds.specs.Table.{Codes, spotsIn};
-ghost use Rattle.rounds.specs.Offers.{lift, mark, top, gives, pour, ruleRound, Ready, Inside};
+ghost use Rattle.rounds.specs.Offers.{lift, mark, top, lowered, gives, pour, ruleRound, Ready, Inside};
 
 // At least v at p; whether that changed it.
 fn raise_at(r: &mut [u16], p: usize, v: u16) -> bool
@@ -80,7 +80,7 @@ fn tops(b: [u16; 16], h: [u16; 16]) -> u16
 
 // One less than y, or t where y is 0.
 fn given(t: u16, y: u16) -> u16
-    ensures { λ r. ⌜ r ≡ pick (ltb 0 y) (y - 1) t ⌝ }
+    ensures { λ r. ⌜ r ≡ lowered t y ⌝ }
 {
     if 0 < y {
         return y - 1;

@@ -1,12 +1,12 @@
 -- `rounds::round::offered` meets its contract. Assumes nothing.
 use borrow.Author.Needs.{needs}
 use native.Mathlib.Omega.{arith}
-use mathlib.Core.Path.{_≡_, _∙_}
+use mathlib.Core.Path.{_≡_, refl, _∙_}
 use mathlib.Core.List.{_++_}
 use Prim.Native.Nat.{_≤_, _-_}
 use lib.ListN.{length, drop, take, length-set}
-use Rattle.rounds.specs.Offers.{gives}
-use Rattle.rounds.proofs.Turns.{gives-turn, gives-end}
+use Rattle.laws.proofs.Maps.{map-turn, map-end}
+use Rattle.rounds.specs.Offers.{lowered, gives}
 use Rattle.rounds.proofs.round.offered.Statement.{statement}
 use Rattle.rounds.proofs.round.offered.Tie as tie
 
@@ -47,12 +47,12 @@ loop-again c =
     let loop = c .before .before .loop in (
       search needs,
       length-set (loop .o) (loop .i) (c .given .result) ∙ loop .inv .1,
-      gives-turn (c .before .before .before .args .t) (loop .o) _ (loop .i) (c .given .result) (omega arith) (c .given .ensures) (loop .inv .2),
+      map-turn (lowered (c .before .before .before .args .t)) (loop .o) _ _ (loop .i) (c .given .result) (omega arith) (c .given .ensures) refl (loop .inv .2),
     )
 
 returns : tie.Need-returns Inv-loop μ-loop
 returns c =
-    gives-end (c .before .before .args .t) (c .before .loop .o) _ (c .before .loop .i) (omega arith) (c .before .loop .inv .2)
+    map-end (lowered (c .before .before .args .t)) (c .before .loop .o) _ (c .before .loop .i) (omega arith) (c .before .loop .inv .2)
 
 pub offered-spec : {M : Type 1} → statement M
 offered-spec =
