@@ -1,6 +1,6 @@
 -- A refusal's number is 1 to 10, so the first of the numbers told is 0 only where the job was accepted. Assumes nothing.
 use Prim.Native.Nat.{ℕ, zero, suc, _+_}
-use mathlib.Core.Path.{_≡_, refl, sym, subst}
+use mathlib.Core.Path.{_≡_, refl, sym, _∙_, subst}
 use mathlib.Core.Bool.{Bool, true, false, _&&_}
 use mathlib.Core.List.{List}
 use lib.ListN.{length, getD}
@@ -137,24 +137,19 @@ unfolding judged
 judged-numbered short bs =
     either short (refused 1 0) _ tt (either (ltb 65535 (length bs)) (refused 2 0) _ tt (job bs 0))
 
--- 0 is told first only where the job was accepted: of a run
-run-zero : (g : Got Job) → Numbered g → getD (runNumbers (runAnswer g)) 0 0 ≡ 0 → (j : Job) × (p : ℕ) × (g ≡ got j p)
-unfolding runAnswer
-run-zero (got j p) h e = (j, p, refl)
-run-zero (refused n p) h e = absurd (subst (λ (k : ℕ). T (leb 1 k && leb k 10)) e h)
+-- 0 is told only where the job was accepted, if a refusal is told by its number
+told-zero : (told : Got Job → ℕ) → ((n p : ℕ) → told (refused n p) ≡ n) → (g : Got Job) → Numbered g → told g ≡ 0 → (j : Job) × (p : ℕ) × (g ≡ got j p)
+told-zero told by (got j p) h e = (j, p, refl)
+told-zero told by (refused n p) h e = absurd (subst (λ (k : ℕ). T (leb 1 k && leb k 10)) (sym (by n p) ∙ e) h)
 
 pub run-accepted : {job words ranks numbers words′ ranks′ : List ℕ} → RunTold job words ranks numbers words′ ranks′ → getD numbers 0 0 ≡ 0
     → (j : Job) × (p : ℕ) × (runJob job words ranks ≡ got j p)
+unfolding runAnswer
 run-accepted {job} {words} {ranks} t e =
-    run-zero (runJob job words ranks) (judged-numbered _ job) (rw (sym (t .ran .answers), sym (t .told)) e)
-
--- of a verdict
-verdict-zero : (g : Got Job) → Numbered g → getD (verdictNumbers (verdictAnswer g)) 0 0 ≡ 0 → (j : Job) × (p : ℕ) × (g ≡ got j p)
-unfolding verdictAnswer
-verdict-zero (got j p) h e = (j, p, refl)
-verdict-zero (refused n p) h e = absurd (subst (λ (k : ℕ). T (leb 1 k && leb k 10)) e h)
+    told-zero (λ g. getD (runNumbers (runAnswer g)) 0 0) (λ n p. refl) (runJob job words ranks) (judged-numbered _ job) (rw (sym (t .ran .answers), sym (t .told)) e)
 
 pub verdict-accepted : {job ranks numbers ranks′ : List ℕ} → VerdictTold job ranks numbers ranks′ → getD numbers 0 0 ≡ 0
     → (j : Job) × (p : ℕ) × (verdictJob job ranks ≡ got j p)
+unfolding verdictAnswer
 verdict-accepted {job} {ranks} t e =
-    verdict-zero (verdictJob job ranks) (judged-numbered _ job) (rw (sym (t .judged .answers), sym (t .told)) e)
+    told-zero (λ g. getD (verdictNumbers (verdictAnswer g)) 0 0) (λ n p. refl) (verdictJob job ranks) (judged-numbered _ job) (rw (sym (t .judged .answers), sym (t .told)) e)

@@ -1,7 +1,7 @@
 -- Laws of readers: what a field, a test, a choice and a loop make of the whole. Assumes nothing.
 use Prim.Native.Nat.{ℕ, zero, suc, _+_, _-_, _<_, _≤_}
 use native.Mathlib.Omega.{arith}
-use mathlib.Core.Path.{_≡_, refl, sym, ap, _∙_, fun-ext}
+use mathlib.Core.Path.{_≡_, refl, sym, ap, _∙_, subst, fun-ext}
 use mathlib.Core.Bool.{Bool, true, false}
 use mathlib.Core.List.{List, [], _∷_, _++_, append-assoc, append-nil}
 use lib.ListN.{length}
@@ -146,6 +146,13 @@ number-within hi bs at x q e = up-to (readHalf bs at) hi at x q e
 pub up-to-within : (hi : ℕ) (bs : List ℕ) (at x q : ℕ) → readUpTo hi bs at ≡ got x q → x ≤ hi
 unfolding readUpTo
 up-to-within hi bs at x q e = up-to (readWord bs at) hi at x q e
+
+-- what is made of a number that was accepted
+pub up-to-made : {A : Type 0} (P : A → Type 0) (make : ℕ → A) (hi : ℕ) (bs : List ℕ) (at : ℕ) (a : A) (q : ℕ) → ((x : ℕ) → x ≤ hi → P (make x)) →
+    after (readUpTo hi bs at) (λ x p. got (make x) p) ≡ got a q → P a
+up-to-made P make hi bs at a q f e =
+    let r = after-inv (readUpTo hi bs at) _ a q e in
+    subst P (same-value _ a _ q (r .3)) (f (r .0) (up-to-within hi bs at (r .0) (r .1) (r .2)))
 
 -- ---- an answer that stands beside a step
 pub step-map : {A B : Type 0} (s : Step) (a : A) (f : A → B) → ofStep s (f a) ≡ after (ofStep s a) (λ x p. got (f x) p)

@@ -239,14 +239,14 @@ edges-of (ρ ∷ ρs) e = (λ m. to (edges-of ρs e .0) (append-cases (ruleEdges
     from f h (inl q) = in-left (edges ρs) (subst (λ (σ : Rule). e ∈ ruleEdges σ) q (h .2))
     from f h (inr m) = in-right (ruleEdges ρ) (f (h .0, m, h .2))
 
-pub plain-edges : (ρs : List Rule) (p q : ℕ) → (plain p q ∈ edges ρs) ↔ ((ρ : Rule) × (ρ ∈ ρs) × PlainEdge ρ p q)
-plain-edges ρs p q = (
-  λ m. let r = edges-of ρs (plain p q) .0 m in (r .0, r .1, rule-plain (r .0) p q .0 (r .2)),
-  λ h. edges-of ρs (plain p q) .1 (h .0, h .1, rule-plain (h .0) p q .1 (h .2)),
+edges-as : (ρs : List Rule) (e : Edge) (P : Rule → Type 0) → ((ρ : Rule) → (e ∈ ruleEdges ρ) ↔ P ρ) → (e ∈ edges ρs) ↔ ((ρ : Rule) × (ρ ∈ ρs) × P ρ)
+edges-as ρs e P is = (
+  λ m. let r = edges-of ρs e .0 m in (r .0, r .1, is (r .0) .0 (r .2)),
+  λ h. edges-of ρs e .1 (h .0, h .1, is (h .0) .1 (h .2)),
 )
 
+pub plain-edges : (ρs : List Rule) (p q : ℕ) → (plain p q ∈ edges ρs) ↔ ((ρ : Rule) × (ρ ∈ ρs) × PlainEdge ρ p q)
+plain-edges ρs p q = edges-as ρs (plain p q) (λ ρ. PlainEdge ρ p q) (λ ρ. rule-plain ρ p q)
+
 pub special-edges : (ρs : List Rule) (p q : ℕ) → (special p q ∈ edges ρs) ↔ ((ρ : Rule) × (ρ ∈ ρs) × SpecialEdge ρ p q)
-special-edges ρs p q = (
-  λ m. let r = edges-of ρs (special p q) .0 m in (r .0, r .1, rule-special (r .0) p q .0 (r .2)),
-  λ h. edges-of ρs (special p q) .1 (h .0, h .1, rule-special (h .0) p q .1 (h .2)),
-)
+special-edges ρs p q = edges-as ρs (special p q) (λ ρ. SpecialEdge ρ p q) (λ ρ. rule-special ρ p q)

@@ -361,9 +361,12 @@ pub record Packing (rs : Rules) (codes₀ counts₀ codes counts : List ℕ) (us
 
 -- the rules of a table
 module _ (rs : Rules) (good : GoodRules rs) where
+  taken-long : length (take (rs .count) (rs .list)) ≡ rs .count
+  taken-long = let c = good .count in let s = good .sized in length-take-le (rs .count) (rs .list) (omega arith)
+
   pub rules-long : length (rulesOf rs) ≡ rs .count
   unfolding rulesOf
-  rules-long = let c = good .count in let s = good .sized in length-map (take (rs .count) (rs .list)) ruleOf ∙ length-take-le (rs .count) (rs .list) (omega arith)
+  rules-long = length-map (take (rs .count) (rs .list)) ruleOf ∙ taken-long
 
   pub rules-fit : Fits (rulesOf rs)
   unfolding rulesOf
@@ -371,26 +374,20 @@ module _ (rs : Rules) (good : GoodRules rs) where
       let h = from-map ruleOf (take (rs .count) (rs .list)) m in
       let w = place-of lostRule (take (rs .count) (rs .list)) (h .1) in
       let l = w .1 in
-      let c = good .count in
-      let s = good .sized in
-      let n : length (take (rs .count) (rs .list)) ≡ rs .count = length-take-le (rs .count) (rs .list) (omega arith) in
+      let n = taken-long in
       let lt : w .0 < rs .count = omega arith in
       let g : Good (h .0) = subst Good (sym (getD-take (rs .count) (rs .list) (w .0) lostRule lt) ∙ w .2) (good .each (w .0) lt) in
       subst Fit (h .2) (record { near = rule-near (h .0) g; few = rule-few (h .0) g })
 
   left-step : (i : ℕ) → i < rs .count → left rs i ≡ ruleOf (getD (rs .list) i lostRule) ∷ left rs (i + 1)
   left-step i lt =
-      let c = good .count in
-      let s = good .sized in
-      let n : length (take (rs .count) (rs .list)) ≡ rs .count = length-take-le (rs .count) (rs .list) (omega arith) in
+      let n = taken-long in
       ap (map ruleOf) (drop-cons (take (rs .count) (rs .list)) i lostRule (omega arith))
       ∙ ap₂ (λ (x : Rule) (k : ℕ). ruleOf x ∷ map ruleOf (drop k (take (rs .count) (rs .list)))) (getD-take (rs .count) (rs .list) i lostRule lt) (sym (add-one i))
 
   left-none : (i : ℕ) → rs .count ≤ i → left rs i ≡ []
   left-none i ge =
-      let c = good .count in
-      let s = good .sized in
-      let n : length (take (rs .count) (rs .list)) ≡ rs .count = length-take-le (rs .count) (rs .list) (omega arith) in
+      let n = taken-long in
       let k : length (take (rs .count) (rs .list)) ≤ i = omega arith in
       ap (map ruleOf) (drop-of-length-le (take (rs .count) (rs .list)) k)
 

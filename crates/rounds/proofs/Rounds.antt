@@ -14,58 +14,52 @@ use Rattle.model.specs.Order.{_∈_}
 use Rattle.model.specs.Graph.{Edge, plain, special, target, stay, along, across, Reaches}
 use Rattle.model.specs.Edges.{Spot, occurs, fans}
 use Rattle.model.specs.Ranks.{value, raise, offer, pick}
-use Rattle.model.proofs.Raise.{max-is, raise-cases, raise-at, length-raise, Below, below-refl, below-trans, below-antisym, below-value, raise-below}
+use Rattle.model.proofs.Raise.{max-is, raise-cases, raise-at, length-raise, Below, below-refl, below-trans, below-value, raise-below}
 use Rattle.model.proofs.RankLaws.{Sound, Capped, Closed}
 use Rattle.model.proofs.EdgeLaws.{spot, occurs-somewhere, somewhere-occurs, FansEdge, fans-edge, edge-fans}
 use Rattle.laws.proofs.Maps.{getD-mapped}
-use Rattle.rounds.specs.Offers.{lift, mark, top, lowered, gives, pour, offers, ruleRound}
+use Rattle.rounds.specs.Offers.{raises, lift, mark, top, lowered, gives, pour, offers, ruleRound}
 
--- lift
+-- raises
+module _ (place number : Spot → ℕ) where
+  raises-cases : (l : List ℕ) (ss : List Spot) (x : ℕ)
+      → (value (raises place number l ss) x ≡ value l x) ⊎ ((s : Spot) × (s ∈ ss) × (place s ≡ x) × (value (raises place number l ss) x ≡ number s))
+  raises-cases l [] x = inl refl
+  raises-cases l (s ∷ ss) x = go (raises-cases l′ ss x) (raise-cases l (place s) (number s) x)
+    where
+      l′ : List ℕ
+      l′ = raise l (place s) (number s)
 
-lift-cases : (b r : List ℕ) (ss : List Spot) (x : ℕ)
-    → (value (lift b r ss) x ≡ value b x) ⊎ ((s : Spot) × (s ∈ ss) × (s .name ≡ x) × (value (lift b r ss) x ≡ suc (value r (s .at))))
-lift-cases b r [] x = inl refl
-lift-cases b r (s ∷ ss) x = go (lift-cases b′ r ss x) (raise-cases b (s .name) (suc (value r (s .at))) x)
-  where
-    b′ : List ℕ
-    b′ = raise b (s .name) (suc (value r (s .at)))
+      go : (value (raises place number l′ ss) x ≡ value l′ x) ⊎ ((t : Spot) × (t ∈ ss) × (place t ≡ x) × (value (raises place number l′ ss) x ≡ number t))
+          → (value l′ x ≡ value l x) ⊎ ((x ≡ place s) × (value l′ x ≡ number s))
+          → (value (raises place number l′ ss) x ≡ value l x) ⊎ ((t : Spot) × (t ∈ (s ∷ ss)) × (place t ≡ x) × (value (raises place number l′ ss) x ≡ number t))
+      go (inl e) (inl k) = inl (e ∙ k)
+      go (inl e) (inr k) = inr (s, here refl, sym (k .0), e ∙ k .1)
+      go (inr h) k = inr (h .0, there (h .1), h .2, h .3)
 
-    go : (value (lift b′ r ss) x ≡ value b′ x) ⊎ ((t : Spot) × (t ∈ ss) × (t .name ≡ x) × (value (lift b′ r ss) x ≡ suc (value r (t .at))))
-        → (value b′ x ≡ value b x) ⊎ ((x ≡ s .name) × (value b′ x ≡ suc (value r (s .at))))
-        → (value (lift b′ r ss) x ≡ value b x) ⊎ ((t : Spot) × (t ∈ (s ∷ ss)) × (t .name ≡ x) × (value (lift b′ r ss) x ≡ suc (value r (t .at))))
-    go (inl e) (inl k) = inl (e ∙ k)
-    go (inl e) (inr k) = inr (s, here refl, sym (k .0), e ∙ k .1)
-    go (inr h) k = inr (h .0, there (h .1), h .2, h .3)
+  raises-below : (l : List ℕ) (ss : List Spot) → Below l (raises place number l ss)
+  raises-below l [] = below-refl l
+  raises-below l (s ∷ ss) = below-trans (raise-below l (place s) (number s)) (raises-below (raise l (place s) (number s)) ss)
 
-lift-below : (b r : List ℕ) (ss : List Spot) → Below b (lift b r ss)
-lift-below b r [] = below-refl b
-lift-below b r (s ∷ ss) = below-trans (raise-below b (s .name) (suc (value r (s .at)))) (lift-below (raise b (s .name) (suc (value r (s .at)))) r ss)
+  raises-length : (l : List ℕ) (ss : List Spot) → length (raises place number l ss) ≡ length l
+  raises-length l [] = refl
+  raises-length l (s ∷ ss) = raises-length (raise l (place s) (number s)) ss ∙ length-raise l (place s) (number s)
 
-lift-length : (b r : List ℕ) (ss : List Spot) → length (lift b r ss) ≡ length b
-lift-length b r [] = refl
-lift-length b r (s ∷ ss) = lift-length (raise b (s .name) (suc (value r (s .at)))) r ss ∙ length-raise b (s .name) (suc (value r (s .at)))
+  raises-at : (l : List ℕ) (ss : List Spot) (t : Spot) → t ∈ ss → place t < length l → number t ≤ value (raises place number l ss) (place t)
+  raises-at l [] t m h = absurd (not-in-nil m)
+  raises-at l (s ∷ ss) t m h = go (λ m′. raises-at l′ ss t m′ (let e = length-raise l (place s) (number s) in omega arith)) (cases-cons m)
+    where
+      l′ : List ℕ
+      l′ = raise l (place s) (number s)
 
-lift-at : (b r : List ℕ) (ss : List Spot) (t : Spot) → t ∈ ss → t .name < length b → suc (value r (t .at)) ≤ value (lift b r ss) (t .name)
-lift-at b r [] t m h = absurd (not-in-nil m)
-lift-at b r (s ∷ ss) t m h = go (λ m′. lift-at b′ r ss t m′ (let e = length-raise b (s .name) (suc (value r (s .at))) in omega arith)) (cases-cons m)
-  where
-    b′ : List ℕ
-    b′ = raise b (s .name) (suc (value r (s .at)))
+      first : place s < length l → number s ≤ value (raises place number l′ ss) (place s)
+      first h′ = le-trans (raise-at l (place s) (number s) h′) (below-value (raises-below l′ ss) (place s))
 
-    here : s .name < length b → suc (value r (s .at)) ≤ value (lift b′ r ss) (s .name)
-    here h′ = le-trans (raise-at b (s .name) (suc (value r (s .at))) h′) (below-value (lift-below b′ r ss) (s .name))
-
-    go : (t ∈ ss → suc (value r (t .at)) ≤ value (lift b′ r ss) (t .name)) → (t ≡ s) ⊎ (t ∈ ss) → suc (value r (t .at)) ≤ value (lift b′ r ss) (t .name)
-    go f (inl e) =
-        subst (λ (u : Spot). suc (value r (u .at)) ≤ value (lift b′ r ss) (u .name)) (sym e)
-        (here (subst (λ (u : Spot). u .name < length b) e h))
-    go f (inr m′) = f m′
-
--- mark: `lift` over ranks that are all 0
-
-mark-lift : (h : List ℕ) (ss : List Spot) → mark h ss ≡ lift h [] ss
-mark-lift h [] = refl
-mark-lift h (s ∷ ss) = mark-lift (raise h (s .name) 1) ss
+      go : (t ∈ ss → number t ≤ value (raises place number l′ ss) (place t)) → (t ≡ s) ⊎ (t ∈ ss) → number t ≤ value (raises place number l′ ss) (place t)
+      go f (inl e) =
+          subst (λ (u : Spot). number u ≤ value (raises place number l′ ss) (place u)) (sym e)
+          (first (subst (λ (u : Spot). place u < length l) e h))
+      go f (inr m′) = f m′
 
 -- top
 
@@ -96,52 +90,14 @@ gives-zero t b x l e = getD-mapped (lowered t) b x 0 0 l ∙ ap (lowered t) e
 gives-suc : (t : ℕ) (b : List ℕ) (x v : ℕ) → x < length b → value b x ≡ suc v → value (gives t b) x ≡ v
 gives-suc t b x v l e = getD-mapped (lowered t) b x 0 0 l ∙ ap (lowered t) e ∙ ap (λ (u : Bool). pick u (suc v - 1) t) (lt-ltb 0 (suc v) (omega arith)) ∙ omega arith
 
--- pour
-
-pub pour-below : (o r : List ℕ) (ss : List Spot) → Below r (pour o r ss)
-pour-below o r [] = below-refl r
-pour-below o r (s ∷ ss) = below-trans (raise-below r (s .at) (value o (s .name))) (pour-below o (raise r (s .at) (value o (s .name))) ss)
-
-pub pour-length : (o r : List ℕ) (ss : List Spot) → length (pour o r ss) ≡ length r
-pour-length o r [] = refl
-pour-length o r (s ∷ ss) = pour-length o (raise r (s .at) (value o (s .name))) ss ∙ length-raise r (s .at) (value o (s .name))
-
-pour-cases : (o r : List ℕ) (ss : List Spot) (v : ℕ)
-    → (value (pour o r ss) v ≡ value r v) ⊎ ((s : Spot) × (s ∈ ss) × (s .at ≡ v) × (value (pour o r ss) v ≡ value o (s .name)))
-pour-cases o r [] v = inl refl
-pour-cases o r (s ∷ ss) v = go (pour-cases o r′ ss v) (raise-cases r (s .at) (value o (s .name)) v)
-  where
-    r′ : List ℕ
-    r′ = raise r (s .at) (value o (s .name))
-
-    go : (value (pour o r′ ss) v ≡ value r′ v) ⊎ ((t : Spot) × (t ∈ ss) × (t .at ≡ v) × (value (pour o r′ ss) v ≡ value o (t .name)))
-        → (value r′ v ≡ value r v) ⊎ ((v ≡ s .at) × (value r′ v ≡ value o (s .name)))
-        → (value (pour o r′ ss) v ≡ value r v) ⊎ ((t : Spot) × (t ∈ (s ∷ ss)) × (t .at ≡ v) × (value (pour o r′ ss) v ≡ value o (t .name)))
-    go (inl e) (inl k) = inl (e ∙ k)
-    go (inl e) (inr k) = inr (s, here refl, sym (k .0), e ∙ k .1)
-    go (inr h) k = inr (h .0, there (h .1), h .2, h .3)
-
-pour-still : (o r : List ℕ) (ss : List Spot) → Below (pour o r ss) r → (t : Spot) → t ∈ ss → t .at < length r → value o (t .name) ≤ value r (t .at)
-pour-still o r [] b t m h = absurd (not-in-nil m)
-pour-still o r (s ∷ ss) b t m h =
-    let down = below-trans (pour-below o (raise r (s .at) (value o (s .name))) ss) b in
-    let same : raise r (s .at) (value o (s .name)) ≡ r = below-antisym down (raise-below r (s .at) (value o (s .name))) in
-    let b′ : Below (pour o r ss) r = subst (λ (l : List ℕ). Below (pour o l ss) r) same b in
-    ⊎-elim
-    (λ e.
-    subst (λ (u : Spot). value o (u .name) ≤ value r (u .at)) (sym e)
-    (le-trans (raise-at r (s .at) (value o (s .name)) (subst (λ (u : Spot). u .at < length r) e h)) (below-value down (s .at))))
-    (λ m′. pour-still o r ss b′ t m′ h)
-    (cases-cons m)
-
 -- a round only raises, and keeps the length
 pub round-below : (c : ℕ) (r : List ℕ) (body head : List Spot) → Below r (ruleRound c r body head)
 unfolding ruleRound
-round-below c r body head = pour-below (offers c r body head) r head
+round-below c r body head = raises-below _ _ r head
 
 pub round-length : (c : ℕ) (r : List ℕ) (body head : List Spot) → length (ruleRound c r body head) ≡ length r
 unfolding ruleRound
-round-length c r body head = pour-length (offers c r body head) r head
+round-length c r body head = raises-length _ _ r head
 
 -- one rule
 
@@ -158,29 +114,25 @@ module _ (c : ℕ) (r : List ℕ) (body head : List Spot) (small-b : Small body)
 
   best-long : length best ≡ 16
   unfolding best
-  best-long = lift-length (replicate 16 0) r body
+  best-long = raises-length _ _ (replicate 16 0) body
 
   -- what stands in `best`: 0, or one more than the rank at a place of the variable
   best-is : (x : ℕ) → (value best x ≡ 0) ⊎ ((s : Spot) × (s ∈ body) × (s .name ≡ x) × (value best x ≡ suc (value r (s .at))))
   unfolding best
-  best-is x = ⊎-elim (λ e. inl (e ∙ zeros-at 16 x)) (λ h. inr h) (lift-cases (replicate 16 0) r body x)
+  best-is x = ⊎-elim (λ e. inl (e ∙ zeros-at 16 x)) (λ h. inr h) (raises-cases _ _ (replicate 16 0) body x)
 
   best-at : (s : Spot) → s ∈ body → suc (value r (s .at)) ≤ value best (s .name)
   unfolding best
-  best-at s m = lift-at (replicate 16 0) r body s m (small-b s m)
+  best-at s m = raises-at _ _ (replicate 16 0) body s m (small-b s m)
 
   held-is : (x : ℕ) → 0 < value held x → (s : Spot) × (s ∈ head) × (s .name ≡ x)
   unfolding held
   held-is x h =
-      ⊎-elim (λ e. absurd (let k = ap (λ (l : List ℕ). value l x) (mark-lift (replicate 16 0) head) in let z = zeros-at 16 x in omega arith))
-      (λ p. (p .0, p .1, p .2)) (lift-cases (replicate 16 0) [] head x)
+      ⊎-elim (λ e. absurd (let z = zeros-at 16 x in omega arith)) (λ p. (p .0, p .1, p .2)) (raises-cases (λ s. s .name) (λ s. 1) (replicate 16 0) head x)
 
   held-at : (s : Spot) → s ∈ head → 0 < value held (s .name)
   unfolding held
-  held-at s m =
-      let k = ap (λ (l : List ℕ). value l (s .name)) (mark-lift (replicate 16 0) head) in
-      let l = lift-at (replicate 16 0) [] head s m (small-h s m) in
-      omega arith
+  held-at s m = raises-at _ _ (replicate 16 0) head s m (small-h s m)
 
   given : List ℕ
   given = offers c r body head
@@ -192,6 +144,10 @@ module _ (c : ℕ) (r : List ℕ) (body head : List Spot) (small-b : Small body)
   given-suc : (s : Spot) (v : ℕ) → s ∈ head → value best (s .name) ≡ suc v → value given (s .name) ≡ v
   unfolding given best held
   given-suc s v m e = gives-suc (min c (top best held)) best (s .name) v (let l = small-h s m in let k = best-long in omega arith) e
+
+  -- what stands after the round: what stood there, or an offer of the head
+  round-is : (v : ℕ) → (value (pour given r head) v ≡ value r v) ⊎ ((s : Spot) × (s ∈ head) × (s .at ≡ v) × (value (pour given r head) v ≡ value given (s .name)))
+  round-is v = raises-cases (λ s. s .at) (λ s. value given (s .name)) r head v
 
   not-there : (x : ℕ) → value best x ≡ 0 → occurs x body ≡ false
   not-there x e = go (occurs x body) refl
@@ -258,7 +214,7 @@ module _ (c : ℕ) (r : List ℕ) (body head : List Spot) (small-b : Small body)
     round-sound sound v =
         ⊎-elim (λ e. subst (Reaches g v) (sym e) (sound v))
         (λ p. subst (λ (w : ℕ). Reaches g w (value (pour given r head) v)) (p .2) (subst (Reaches g (p .0 .at)) (sym (p .3)) (given-reaches sound (p .0) (p .1))))
-        (pour-cases given r head v)
+        (round-is v)
 
   pub round-capped : Capped c r → Capped c (ruleRound c r body head)
   unfolding ruleRound given
@@ -269,7 +225,7 @@ module _ (c : ℕ) (r : List ℕ) (body head : List Spot) (small-b : Small body)
       ⊎-elim (λ z. let e = given-zero (p .0) (p .1) z in omega arith)
       (λ q. let e = given-suc (p .0) (value r (q .0 .at)) (p .1) (q .3) in let l = h (q .0 .at) in omega arith)
       (best-is (p .0 .name)))
-      (pour-cases given r head v)
+      (round-is v)
 
   -- nothing rose: each edge has what it asks
   pub round-closed : ((t : Spot) → t ∈ head → t .at < length r) → Below (ruleRound c r body head) r → Closed c (fans body body head) r
@@ -277,7 +233,7 @@ module _ (c : ℕ) (r : List ℕ) (body head : List Spot) (small-b : Small body)
   round-closed inside still e m = go e (fans-edge body body head e m)
     where
       at : (t : Spot) → t ∈ head → value given (t .name) ≤ value r (t .at)
-      at t i = pour-still given r head still t i (inside t i)
+      at t i = le-trans (raises-at _ _ r head t i (inside t i)) (below-value still (t .at))
 
       kind : (e : Edge) (s t : Spot) → s ∈ body → occurs (s .name) head ≡ true → t ∈ head
           → ((s .name ≡ t .name) × (e ≡ plain (s .at) (t .at))) ⊎ ((occurs (t .name) body ≡ false) × (e ≡ special (s .at) (t .at)))

@@ -1,8 +1,8 @@
 -- The loops of a round, turn by turn: what is left, applied to what there is, makes the whole. Assumes nothing.
 use mathlib.Core.Path.{_≡_, refl, sym, ap, ap₂, _∙_}
 use mathlib.Core.Bool.{Bool, false, _||_}
-use mathlib.Core.List.{List, [], _∷_}
-use Prim.Native.Nat.{ℕ, suc, _+_, _/_, _%_, _≤_, _<_, min, max}
+use mathlib.Core.List.{List}
+use Prim.Native.Nat.{ℕ, _+_, _/_, _%_, _≤_, _<_, min, max}
 use native.Mathlib.Nat.{le-refl}
 use native.Mathlib.Numerals.{add-one}
 use native.Mathlib.Omega.{arith}
@@ -11,45 +11,26 @@ use lib.ListN.{length, getD, drop, replicate, drop-of-length-le}
 use lib.Seq.{drop-cons}
 use Rattle.laws.proofs.Members.{all-most}
 use Rattle.model.specs.Edges.{Spot}
-use Rattle.model.specs.Ranks.{value, raise, sum, pick}
+use Rattle.model.specs.Ranks.{raise, sum, pick}
 use Rattle.model.proofs.Raise.{kept, flag-join, length-raise, raise-below, below-sum}
 use Rattle.rounds.specs.Table.{spotOf, spotsIn, Codes}
-use Rattle.rounds.specs.Offers.{lift, mark, pour, top, gives, ruleRound}
+use Rattle.rounds.specs.Offers.{raises, lift, mark, pour, top, gives, ruleRound}
 
 -- a code that is read
 pub code-at : (codes : List ℕ) → Codes codes → (i : ℕ) → getD codes i 0 < 8192
 code-at codes fine i = let h = all-most 8191 codes (λ k m. let l = fine k m in omega arith) i in omega arith
 
--- a loop over the codes that does one step for each spot
-module _ (whole : List ℕ → List Spot → List ℕ) (step : List ℕ → Spot → List ℕ) (one : (l : List ℕ) (s : Spot) (ss : List Spot) → whole l (s ∷ ss) ≡ whole (step l s) ss) (codes : List ℕ) (i : ℕ) (l all : List ℕ) (inv : whole l (spotsIn (drop i codes)) ≡ all) where
-  pub spot-turn : i < length codes → (m : List ℕ) → m ≡ step l (spotOf (getD codes i 0)) → whole m (spotsIn (drop (i + 1) codes)) ≡ all
+-- a loop over the codes that raises a number for each spot
+module _ (place number : Spot → ℕ) (codes : List ℕ) (i : ℕ) (l all : List ℕ) (inv : raises place number l (spotsIn (drop i codes)) ≡ all) where
+  pub spot-turn : i < length codes → (m : List ℕ) → m ≡ raise l (place (spotOf (getD codes i 0))) (number (spotOf (getD codes i 0)))
+      → raises place number m (spotsIn (drop (i + 1) codes)) ≡ all
   spot-turn h m e =
-      ap₂ (λ (x : List ℕ) (k : ℕ). whole x (spotsIn (drop k codes))) e (add-one i)
-      ∙ sym (one l (spotOf (getD codes i 0)) (spotsIn (drop (suc i) codes)))
-      ∙ ap (λ (x : List ℕ). whole l (spotsIn x)) (sym (drop-cons codes i 0 h))
+      ap₂ (λ (x : List ℕ) (k : ℕ). raises place number x (spotsIn (drop k codes))) e (add-one i)
+      ∙ ap (λ (x : List ℕ). raises place number l (spotsIn x)) (sym (drop-cons codes i 0 h))
       ∙ inv
 
-  pub spot-end : length codes ≤ i → whole l [] ≡ l → l ≡ all
-  spot-end h e = sym e ∙ ap (λ (x : List ℕ). whole l (spotsIn x)) (sym (drop-of-length-le codes h)) ∙ inv
-
--- the loops that lift, mark and pour
-
-pub lift-turn : (r codes : List ℕ) (i : ℕ) (b all : List ℕ) → lift b r (spotsIn (drop i codes)) ≡ all → i < length codes
-    → (m : List ℕ) → m ≡ raise b (getD codes i 0 / 512) (value r (getD codes i 0 % 512) + 1) → lift m r (spotsIn (drop (i + 1) codes)) ≡ all
-lift-turn r codes i b all inv h m e =
-    spot-turn (λ (l : List ℕ) (ss : List Spot). lift l r ss) (λ (l : List ℕ) (s : Spot). raise l (s .name) (suc (value r (s .at)))) (λ l s ss. refl) codes i b all inv h m
-    (e ∙ ap (λ (k : ℕ). raise b (getD codes i 0 / 512) k) (add-one (value r (getD codes i 0 % 512))))
-
-pub lift-end : (r codes : List ℕ) (i : ℕ) (b all : List ℕ) → lift b r (spotsIn (drop i codes)) ≡ all → length codes ≤ i → b ≡ all
-lift-end r codes i b all inv h =
-    spot-end (λ (l : List ℕ) (ss : List Spot). lift l r ss) (λ (l : List ℕ) (s : Spot). raise l (s .name) (suc (value r (s .at)))) (λ l s ss. refl) codes i b all inv h refl
-
-pub mark-turn : (codes : List ℕ) (i : ℕ) (b all : List ℕ) → mark b (spotsIn (drop i codes)) ≡ all → i < length codes
-    → (m : List ℕ) → m ≡ raise b (getD codes i 0 / 512) 1 → mark m (spotsIn (drop (i + 1) codes)) ≡ all
-mark-turn codes i b all inv h m e = spot-turn mark (λ (l : List ℕ) (s : Spot). raise l (s .name) 1) (λ l s ss. refl) codes i b all inv h m e
-
-pub mark-end : (codes : List ℕ) (i : ℕ) (b all : List ℕ) → mark b (spotsIn (drop i codes)) ≡ all → length codes ≤ i → b ≡ all
-mark-end codes i b all inv h = spot-end mark (λ (l : List ℕ) (s : Spot). raise l (s .name) 1) (λ l s ss. refl) codes i b all inv h refl
+  pub spot-end : length codes ≤ i → l ≡ all
+  spot-end h = ap (λ (x : List ℕ). raises place number l (spotsIn x)) (sym (drop-of-length-le codes h)) ∙ inv
 
 pub record Pouring (o r₀ codes r : List ℕ) (changed : Bool) (i : ℕ) : Type 0 where
   pub at-most : i ≤ length codes
@@ -70,14 +51,13 @@ pouring-step o r₀ codes r changed i inv h m now up e f g =
     record {
       at-most = omega arith;
       long = ap length e ∙ length-raise r (getD codes i 0 % 512) (getD o (getD codes i 0 / 512) 0) ∙ inv .long;
-      rest = spot-turn (λ (l : List ℕ) (ss : List Spot). pour o l ss) (λ (l : List ℕ) (x : Spot). raise l (x .at) (value o (x .name))) (λ l x ss. refl) codes i r (pour o r₀ (spotsIn codes)) (inv .rest) h m e;
+      rest = spot-turn _ _ codes i r (pour o r₀ (spotsIn codes)) (inv .rest) h m e;
       flag = g ∙ ap₂ _||_ (inv .flag) f ∙ flag-join (sum r₀) (sum r) (sum m) u (omega arith);
       up = omega arith;
     }
 
 pub pouring-end : (o r₀ codes r : List ℕ) (changed : Bool) (i : ℕ) → Pouring o r₀ codes r changed i → length codes ≤ i → r ≡ pour o r₀ (spotsIn codes)
-pouring-end o r₀ codes r changed i inv h =
-    spot-end (λ (l : List ℕ) (ss : List Spot). pour o l ss) (λ (l : List ℕ) (x : Spot). raise l (x .at) (value o (x .name))) (λ l x ss. refl) codes i r (pour o r₀ (spotsIn codes)) (inv .rest) h refl
+pouring-end o r₀ codes r changed i inv h = spot-end _ _ codes i r (pour o r₀ (spotsIn codes)) (inv .rest) h
 
 -- the largest so far, and of what is left
 pub top-turn : (b h : List ℕ) (i t v n all : ℕ) → i < length b → i < length h → v ≡ pick (ltb 0 (getD h i 0)) (getD b i 0) 0 → n ≡ max t v

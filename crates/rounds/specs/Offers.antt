@@ -8,15 +8,18 @@ use Rattle.model.specs.Edges.{Spot}
 use Rattle.model.specs.Ranks.{value, raise, pick}
 use Rattle.rounds.specs.Table.{Codes}
 
+-- l with, for each spot, at least its number at its place
+abbrev pub raises : (Spot → ℕ) → (Spot → ℕ) → List ℕ → List Spot → List ℕ
+raises place number l [] = l
+raises place number l (s ∷ ss) = raises place number (raise l (place s) (number s)) ss
+
 -- b with, for each variable, at least one more than the ranks at its positions
 abbrev pub lift : List ℕ → List ℕ → List Spot → List ℕ
-lift b r [] = b
-lift b r (s ∷ ss) = lift (raise b (s .name) (suc (value r (s .at)))) r ss
+lift b r ss = raises (λ s. s .name) (λ s. suc (value r (s .at))) b ss
 
 -- h with 1 at each variable that has a position
 abbrev pub mark : List ℕ → List Spot → List ℕ
-mark h [] = h
-mark h (s ∷ ss) = mark (raise h (s .name) 1) ss
+mark h ss = raises (λ s. s .name) (λ s. 1) h ss
 
 -- the largest of b where h is not 0
 abbrev pub top : List ℕ → List ℕ → ℕ
@@ -34,8 +37,7 @@ gives t b = map (lowered t) b
 
 -- the offers, at the head's positions
 abbrev pub pour : List ℕ → List ℕ → List Spot → List ℕ
-pour o r [] = r
-pour o r (s ∷ ss) = pour o (raise r (s .at) (value o (s .name))) ss
+pour o r ss = raises (λ s. s .at) (λ s. value o (s .name)) r ss
 
 abbrev pub offers : ℕ → List ℕ → List Spot → List Spot → List ℕ
 offers c r body head =

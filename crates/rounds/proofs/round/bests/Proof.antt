@@ -1,10 +1,11 @@
 -- `rounds::round::bests` meets its contract. Assumes nothing.
 use borrow.Author.Needs.{needs}
 use Prim.Native.Nat.{_%_, _/_, _+_, _≤_, _-_}
-use Rattle.model.specs.Ranks.{value}
+use Rattle.model.specs.Ranks.{value, raise}
 use lib.ListN.{getD, length, drop, replicate}
-use Rattle.rounds.proofs.Turns.{code-at, lift-turn, lift-end}
+use Rattle.rounds.proofs.Turns.{code-at, spot-turn, spot-end}
 use Rattle.model.proofs.Raise.{length-raise}
+use native.Mathlib.Numerals.{add-one}
 use native.Mathlib.Omega.{arith}
 use mathlib.Core.Path.{_≡_, _∙_, ap}
 use Rattle.rounds.specs.Table.{spotsIn}
@@ -64,14 +65,15 @@ loop-again c =
     let code = getD (start .args .codes .now) (loop .i) 0 in (
       search needs,
       ap length (c .before .raise-at .ensures .0) ∙ length-raise (loop .best) (code / 512) (value (start .args .ranks .now) (code % 512) + 1) ∙ loop .inv .1,
-      lift-turn (start .args .ranks .now) (start .args .codes .now) (loop .i) (loop .best) _ (loop .inv .2) (c .before .before .before .before .before .loop-test .taken) _ (c .before .raise-at .ensures .0),
+      spot-turn _ _ (start .args .codes .now) (loop .i) (loop .best) _ (loop .inv .2) (c .before .before .before .before .before .loop-test .taken) _
+          (c .before .raise-at .ensures .0 ∙ ap (raise (loop .best) (code / 512)) (add-one (value (start .args .ranks .now) (code % 512)))),
     )
 
 returns : tie.Need-returns Inv-loop μ-loop
 returns c =
     let loop = c .before .loop in
     let start = c .before .before .before .before in
-    lift-end (start .args .ranks .now) (start .args .codes .now) (loop .i) (loop .best) _ (loop .inv .2) (c .loop-test .left)
+    spot-end _ _ (start .args .codes .now) (loop .i) (loop .best) _ (loop .inv .2) (c .loop-test .left)
 
 pub bests-spec : {M : Type 1} → statement M
 bests-spec =

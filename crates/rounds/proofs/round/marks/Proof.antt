@@ -2,7 +2,7 @@
 use borrow.Author.Needs.{needs}
 use lib.ListN.{getD, length, drop, replicate}
 use Prim.Native.Nat.{_/_, _≤_, _-_}
-use Rattle.rounds.proofs.Turns.{code-at, mark-turn, mark-end}
+use Rattle.rounds.proofs.Turns.{code-at, spot-turn, spot-end}
 use Rattle.model.proofs.Raise.{length-raise}
 use native.Mathlib.Omega.{arith}
 use mathlib.Core.Path.{_≡_, _∙_, ap}
@@ -51,13 +51,13 @@ loop-again c =
     let start = c .before .before .before .before .before .before .before in (
       search needs,
       ap length (c .before .raise-at .ensures .0) ∙ length-raise (loop .held) (getD (start .args .codes .now) (loop .i) 0 / 512) 1 ∙ loop .inv .1,
-      mark-turn (start .args .codes .now) (loop .i) (loop .held) _ (loop .inv .2) (c .before .before .before .before .loop-test .taken) _ (c .before .raise-at .ensures .0),
+      spot-turn _ _ (start .args .codes .now) (loop .i) (loop .held) _ (loop .inv .2) (c .before .before .before .before .loop-test .taken) _ (c .before .raise-at .ensures .0),
     )
 
 returns : tie.Need-returns Inv-loop μ-loop
 returns c =
     let loop = c .before .loop in
-    mark-end (c .before .before .before .args .codes .now) (loop .i) (loop .held) _ (loop .inv .2) (c .loop-test .left)
+    spot-end _ _ (c .before .before .before .args .codes .now) (loop .i) (loop .held) _ (loop .inv .2) (c .loop-test .left)
 
 pub marks-spec : {M : Type 1} → statement M
 marks-spec =
