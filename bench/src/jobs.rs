@@ -25,7 +25,8 @@ pub fn families() -> Vec<Family> {
         [250, 500, 1000].map(chain).into(),
         [21, 30, 43].map(closure).into(),
         [125, 250, 500].map(merging).into(),
-        [1, 2, 3, 4].map(eight_atoms).into(),
+        [1, 2, 3, 4].map(|degree| eight_atoms(0, degree)).into(),
+        [1, 2, 3, 4].map(|degree| eight_atoms(8, degree)).into(),
         [1, 2, 4].map(reading).into(),
         [1, 2, 4].map(slowest).into(),
     ]
@@ -144,14 +145,17 @@ fn merging(n: usize) -> Row {
 }
 
 /// A body of eight atoms in a row over 1,000 facts, each joined to `degree`;
-/// the head has the first variable alone, and no match is active.
-fn eight_atoms(degree: usize) -> Row {
+/// the head has one variable alone, and no match is active.
+fn eight_atoms(variable: usize, degree: usize) -> Row {
     let nodes = 1000 / (degree + 1);
     let body: Vec<String> = (0..8).map(|i| format!("r0(x{i},x{})", i + 1)).collect();
-    let mut text = format!("budget 10\narities 2 1\n{} -> r1(x0).\n", body.join(", "));
+    let mut text = format!(
+        "budget 10\narities 2 1\n{} -> r1(x{variable}).\n",
+        body.join(", ")
+    );
     text += &edges(0, nodes, degree);
     text += &format!("repeat 0 {} r1(@).\n", nodes - 1);
-    let name = format!("8 atoms, degree {degree}");
+    let name = format!("8 atoms, x{variable}, degree {degree}");
     run(name, &text, tried(nodes, degree, 8))
 }
 

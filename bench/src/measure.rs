@@ -7,9 +7,11 @@ use std::process::{Command, Stdio};
 use crate::contend::{call, Asked, Lent, Way};
 use crate::jobs::Row;
 
-/// Seconds of one pass over a way's calls. A call that takes longer is made once.
+/// Seconds of one pass over a way's calls, and how many passes there are; a call
+/// that takes longer than a pass is made once in each of fewer.
 const PASS: f64 = 0.1;
-const PASSES: usize = 3;
+const PASSES: usize = 8;
+const LONG_PASSES: usize = 2;
 
 /// Seconds from which on a call is not tried.
 pub const LIMIT: f64 = 2.0;
@@ -44,9 +46,9 @@ fn clock() -> f64 {
 pub fn least(row: &Row, tried: &[Way]) -> Result<Vec<f64>, String> {
     let mut best = first(row, tried)?;
     let mut lent = Lent::new();
-    for _ in 0..PASSES {
+    for turn in 0..PASSES {
         for (way, best) in tried.iter().zip(&mut best) {
-            if *best < PASS {
+            if *best < PASS || turn < LONG_PASSES {
                 *best = best.min(pass(row, *way, &mut lent));
             }
         }
@@ -79,7 +81,9 @@ fn pass(row: &Row, way: Way, lent: &mut Lent) -> f64 {
     while last - start < PASS {
         call(way, row.asked, &row.job, lent);
         let now = clock();
-        best = best.min(now - last);
+        if last < now {
+            best = best.min(now - last);
+        }
         last = now;
     }
     best
