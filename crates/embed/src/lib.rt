@@ -1,5 +1,7 @@
 // The engine and the line writer for C and Rust. Only numbers cross: a slice as a pointer and a length, a lent array as a pointer. Promised
 // are the engine's answers and contents of lent slices, told as numbers; nothing is asked of a caller but that its pointers and lengths are true.
+#![tactic(auto)]
+
 pub mod numbers;
 
 ghost use Rattle.embed.specs.Told.{RunTold, VerdictTold, LineTold};

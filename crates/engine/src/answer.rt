@@ -2,7 +2,7 @@
 use chase::outcome::Ending;
 
 // A refusal, or how the run ended with its steps, facts and next blank, and beside it the verdict with its generations.
-#[derive(Drop)]
+#[derive(Clone, Copy)]
 pub enum RunAnswer {
     Refused {
         number: u8,
@@ -19,7 +19,7 @@ pub enum RunAnswer {
 }
 
 // A refusal, or the verdict with its generations.
-#[derive(Drop)]
+#[derive(Clone, Copy)]
 pub enum VerdictAnswer {
     Refused { number: u8, place: usize },
     Judged { acyclic: bool, generations: u16 },

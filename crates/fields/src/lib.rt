@@ -1,31 +1,33 @@
 // The fields of a job, each read at a cursor: its value with the next cursor, or the refusal. Nothing is assumed of bytes or cursor.
 // Each answer means what the paper's reader of that field gives, so there is one answer for every job and place.
+#![tactic(auto)]
+
 ghost use Rattle.std.specs.Prelude.{◌≡◌, ◌+◌, ◌*◌};
 ghost use Rattle.model.specs.Job.{got, refused, read_byte, read_half, read_word, read_count, read_number, read_up_to, read_mark, read_version, read_end};
 ghost use Rattle.fields.specs.Means.{refusal_in, of_field, of_step, within};
 
 // A place in the job.
-#[derive(Drop)]
+#[derive(Clone, Copy)]
 pub struct Cursor {
     pub at: usize,
 }
 
 // The number of a refusal and its place.
-#[derive(Drop)]
+#[derive(Clone, Copy)]
 pub struct Refusal {
     pub number: u8,
     pub place: usize,
 }
 
 // What a field holds, with the next cursor; or the refusal.
-#[derive(Drop)]
+#[derive(Clone, Copy)]
 pub enum Field {
     Value(u32, Cursor),
     Refused(Refusal),
 }
 
 // The next cursor, or the refusal.
-#[derive(Drop)]
+#[derive(Clone, Copy)]
 pub enum Step {
     Next(Cursor),
     Refused(Refusal),

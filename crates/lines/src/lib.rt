@@ -1,5 +1,7 @@
 // The line writer: a fact's words as a line of text in a lent buffer, refused by number and place, and the lines of many facts at once. Promised
 // is that exactly the lines' bytes are set.
+#![tactic(auto)]
+
 ghost use Rattle.std.specs.Prelude.{◌+◌, ◌*◌, ◌≤◌, length};
 ghost use Rattle.model.specs.Facts.{fact};
 ghost use Rattle.model.specs.Words.{facts_of};
@@ -9,7 +11,7 @@ ghost use Rattle.lines.specs.Line.{LineContract};
 ghost use Rattle.lines.specs.Rows.{Row, Rows, arity_in, fact_at};
 
 // A refusal, or the count of the bytes set.
-#[derive(Drop)]
+#[derive(Clone, Copy)]
 pub enum Written {
     Refused { number: u8, place: usize },
     Wrote(usize),

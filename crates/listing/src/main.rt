@@ -1,4 +1,6 @@
 // A job on standard input, its listing on standard output. What is printed is proved in `print`; reading and writing are the library's.
+#![tactic(auto)]
+
 use libc::{STDIN_FILENO, STDOUT_FILENO};
 
 fn main() {

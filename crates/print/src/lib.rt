@@ -1,5 +1,7 @@
 // The listing of a job as bytes: the run's answer, its first two lines and a line for each fact, or the refusal alone. Promised is that exactly
 // the paper's listing is set. Assumes 102,400 lent bytes, which are always enough.
+#![tactic(auto)]
+
 ghost use Rattle.std.specs.Prelude.{◌≡◌, ◌++◌, ◌+◌, ◌≤◌, length, take, drop};
 ghost use Rattle.model.specs.Words.{padded, facts_of};
 ghost use Rattle.model.specs.Lines.{lines};

@@ -1,5 +1,7 @@
 // Verdict, ranks and generations of a job's rules. Promised is that they are the paper's, and that words beyond the 512 stay. Assumes rules as the
 // reader accepts them, and at least 512 lent words.
+#![tactic(auto)]
+
 mod reading;
 mod table;
 
@@ -10,7 +12,7 @@ ghost use Rattle.ranks.specs.Judges.{Judges};
 use rules::Rules;
 
 // The rank of a position: a number of special edges, or 65,535 if there is no largest.
-#[derive(Drop)]
+#[derive(Clone, Copy)]
 pub struct Rank {
     pub word: u16,
 }
@@ -23,7 +25,7 @@ impl Rank {
 }
 
 // Whether the rules are weakly acyclic, and how many times blanks can be invented from invented blanks.
-#[derive(Drop)]
+#[derive(Clone, Copy)]
 pub struct Verdict {
     pub acyclic: bool,
     pub generations: u16,

@@ -1,5 +1,7 @@
 // Every stored job through the engine and the line writer: behind a line with its name what the listing prints, and for the jobs of some
 // folders what the run leaves in the lent storage.
+#![tactic(auto)]
+
 mod listed;
 mod storage;
 

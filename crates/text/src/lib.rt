@@ -1,5 +1,7 @@
 // Pieces of text, put into a lent buffer one after the other: each takes the place where it starts and gives the one behind it. Promised is that
 // exactly the text's bytes are set. Assumes space for them.
+#![tactic(auto)]
+
 pub mod listing;
 
 ghost use Rattle.std.specs.Prelude.{[], ◌∷◌, ◌<◌, length};

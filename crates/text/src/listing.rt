@@ -7,7 +7,7 @@ ghost use Rattle.text.specs.Listing.{outcome_said, first_line, second_line};
 use super::{behind, byte, bytes};
 
 // The word for how a run ended.
-#[derive(Drop)]
+#[derive(Clone, Copy)]
 pub enum Word {
     Done,
     Failed,
