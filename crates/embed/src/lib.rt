@@ -1,5 +1,5 @@
-// The engine and the line writer for C and Rust. Only numbers cross: a slice as a pointer and a length, a lent array as a pointer. Promised
-// are the engine's answers and contents of lent slices, told as numbers; nothing is asked of a caller but that its pointers and lengths are true.
+// The engine and the line writer with answers as numbers, for C and Rust. Promised are the engine's answers and contents of lent slices, told as
+// numbers; nothing is asked of a caller.
 #![tactic(auto)]
 
 pub mod numbers;
@@ -7,13 +7,7 @@ pub mod numbers;
 ghost use Rattle.embed.specs.Told.{RunTold, VerdictTold, LineTold};
 
 // `engine::run`, with its answer as seven numbers.
-#[unsafe(no_mangle)]
-pub extern "C" fn ondajusta_run(
-    job: &[u8],
-    words: &mut [u32],
-    ranks: &mut [u16],
-    answer: &mut [u64; 7],
-)
+pub fn ondajusta_run(job: &[u8], words: &mut [u32], ranks: &mut [u16], answer: &mut [u64; 7])
     ensures { RunTold job.now words.old ranks.old answer.new words.new ranks.new }
 {
     let ran = engine::run(job, &mut *words, &mut *ranks);
@@ -21,8 +15,7 @@ pub extern "C" fn ondajusta_run(
 }
 
 // `engine::verdict`, with its answer as three numbers.
-#[unsafe(no_mangle)]
-pub extern "C" fn ondajusta_verdict(job: &[u8], ranks: &mut [u16], answer: &mut [u64; 3])
+pub fn ondajusta_verdict(job: &[u8], ranks: &mut [u16], answer: &mut [u64; 3])
     ensures { VerdictTold job.now ranks.old answer.new ranks.new }
 {
     let judged = engine::verdict(job, &mut *ranks);
@@ -30,13 +23,7 @@ pub extern "C" fn ondajusta_verdict(job: &[u8], ranks: &mut [u16], answer: &mut 
 }
 
 // `lines::line`, with its answer as two numbers.
-#[unsafe(no_mangle)]
-pub extern "C" fn ondajusta_line(
-    words: &[u32],
-    arity: usize,
-    line: &mut [u8],
-    answer: &mut [u64; 2],
-)
+pub fn ondajusta_line(words: &[u32], arity: usize, line: &mut [u8], answer: &mut [u64; 2])
     ensures { LineTold words.now arity line.old answer.new line.new }
 {
     let written = lines::line(words, arity, &mut *line);
