@@ -3,16 +3,15 @@
 use crate::storage;
 use chase::outcome::Ending;
 use engine::answer::RunAnswer;
-use libc::STDOUT_FILENO;
 use lines::Written;
 use text::listing::Word;
 
 // The first bytes of a line.
-fn put(line: &[u8], n: usize) -> bool {
+fn put(rt: &impl Print, line: &[u8], n: usize) -> bool {
     if line.len() < n {
         return false;
     }
-    io::write_all(STDOUT_FILENO, &line[0..n])
+    rt.write_all(&line[0..n]).is_ok()
 }
 
 fn word_of(ending: Ending) -> Word {
@@ -38,7 +37,7 @@ fn arity(job: &[u8], relation: u32) -> usize {
 }
 
 // The line of the fact in nine words.
-fn fact(nine: &[u32], job: &[u8]) -> bool {
+fn fact(rt: &impl Print, nine: &[u32], job: &[u8]) -> bool {
     if nine.len() < 1 {
         return false;
     }
@@ -47,15 +46,15 @@ fn fact(nine: &[u32], job: &[u8]) -> bool {
     let Written::Wrote(n) = written else {
         return false;
     };
-    put(&line, n)
+    put(rt, &line, n)
 }
 
 // The lines of the facts in the words, nine words each.
-fn facts(words: &[u32], job: &[u8]) -> bool {
+fn facts(rt: &impl Print, words: &[u32], job: &[u8]) -> bool {
     let mut at = 0;
     while at + 9 <= words.len() {
         let end = at + 9;
-        if !fact(&words[at..end], job) {
+        if !fact(rt, &words[at..end], job) {
             return false;
         }
         at = end;
@@ -64,12 +63,12 @@ fn facts(words: &[u32], job: &[u8]) -> bool {
 }
 
 // The listing; how many words the facts take, none where the job was refused.
-fn told(job: &[u8], words: &[u32], answer: RunAnswer) -> usize {
+fn told(rt: &impl Print, job: &[u8], words: &[u32], answer: RunAnswer) -> usize {
     let mut line = [0u8; 256];
     match answer {
         RunAnswer::Refused { number, place } => {
             let n = text::listing::refused_line(&mut line, 0, number as u64, place as u64);
-            put(&line, n);
+            put(rt, &line, n);
             0
         }
         RunAnswer::Ran {
@@ -89,9 +88,9 @@ fn told(job: &[u8], words: &[u32], answer: RunAnswer) -> usize {
                 count as u64,
                 next as u64,
             );
-            put(&line, n);
+            put(rt, &line, n);
             let m = text::listing::second_line(&mut line, 0, acyclic, generations as u64);
-            put(&line, m);
+            put(rt, &line, m);
             if 1024 < count {
                 return 0;
             }
@@ -99,20 +98,20 @@ fn told(job: &[u8], words: &[u32], answer: RunAnswer) -> usize {
             if words.len() < used {
                 return 0;
             }
-            facts(&words[0..used], job);
+            facts(rt, &words[0..used], job);
             used
         }
     }
 }
 
 // The listing of a job, and with it its storage where that is asked for; whether it was written whole.
-pub(crate) fn list(job: &[u8], stored: bool) -> bool {
+pub(crate) fn list(rt: &impl Print, job: &[u8], stored: bool) -> bool {
     let mut words = [7u32; 9224];
     let mut ranks = [7u16; 520];
     let answer = engine::run(job, &mut words, &mut ranks);
-    let used = told(job, &words, answer);
+    let used = told(rt, job, &words, answer);
     if stored {
-        return storage::show(&words, &ranks, used);
+        return storage::show(rt, &words, &ranks, used);
     }
     true
 }

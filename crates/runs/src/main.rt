@@ -5,7 +5,8 @@
 mod listed;
 mod storage;
 
-use libc::STDOUT_FILENO;
+use std::fs::File;
+use std::{env, io};
 
 // Whether the name starts with the word.
 fn starts(name: &[u8], word: &[u8]) -> bool {
@@ -27,31 +28,21 @@ fn stored(name: &[u8]) -> bool {
     starts(name, b"paper/") || starts(name, b"largest/")
 }
 
-// The job that argument i names; whether to go on.
-fn run(i: usize) -> bool {
-    let mut name = io::buffer();
-    let n = os::arg(i, &mut name);
-    if os::errno() != 0 {
-        os::fail(b"argument");
-        return false;
-    }
-    let fd = os::open_read(&name[..n]);
-    if fd < 0 {
-        os::fail(&name[..n]);
-        return false;
-    }
-    let mut job = io::large_buffer();
-    let k = io::read_full(fd, &mut job);
-    libc::close(fd);
-    let named = io::write_all(STDOUT_FILENO, &name[..n]);
-    let ended = io::write_all(STDOUT_FILENO, b"\n");
-    named && ended && listed::list(&job[..k], stored(&name[..n]))
+// The job of that name; whether to go on.
+fn run(rt: &HostRuntime, name: &str) -> io::Result<bool> {
+    let mut file = File::open(rt, name)?;
+    let mut job = [0u8; 65536];
+    let k = input::read_full(&mut file, &mut job)?;
+    let named = rt.write_all(name.as_bytes()).is_ok();
+    let ended = rt.write_all(b"\n").is_ok();
+    Ok(named && ended && listed::list(rt, &job[..k], stored(name.as_bytes())))
 }
 
-fn main() {
-    let n = os::arg_count();
-    let mut i = 1;
-    while i < n && run(i) {
-        i += 1;
+fn main(rt: HostRuntime) -> io::Result<()> {
+    for name in env::args(&rt)?.skip(1) {
+        if !run(&rt, name.as_str())? {
+            break;
+        }
     }
+    Ok(())
 }

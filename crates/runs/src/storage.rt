@@ -1,22 +1,20 @@
 // What a run leaves in storage that is lent eight words longer than it needs: the zeros behind the last fact, the words beyond, and the ranks.
 ghost use Rattle.std.specs.Prelude.{◌≤◌};
 
-use libc::STDOUT_FILENO;
-
 // Number i of a table of eight to a line.
-fn item(n: u32, i: usize) -> bool {
-    let printed = io::print_decimal(STDOUT_FILENO, n as u64);
+fn item(rt: &impl Print, n: u32, i: usize) -> bool {
+    let printed = rt.print(n).is_ok();
     if i % 8 == 7 {
-        return io::write_all(STDOUT_FILENO, b"\n") && printed;
+        return rt.write_all(b"\n").is_ok() && printed;
     }
-    io::write_all(STDOUT_FILENO, b" ") && printed
+    rt.write_all(b" ").is_ok() && printed
 }
 
-fn word_table(words: &[u32]) -> bool {
-    let mut whole = io::write_all(STDOUT_FILENO, b"beyond\n");
+fn word_table(rt: &impl Print, words: &[u32]) -> bool {
+    let mut whole = rt.write_all(b"beyond\n").is_ok();
     let mut i = 0;
     while i < words.len() {
-        whole = item(words[i], i) && whole;
+        whole = item(rt, words[i], i) && whole;
         i += 1;
     }
     whole
@@ -26,11 +24,11 @@ fn wide(rank: u16) -> u32 {
     rank as u32
 }
 
-fn rank_table(ranks: &[u16]) -> bool {
-    let mut whole = io::write_all(STDOUT_FILENO, b"ranks\n");
+fn rank_table(rt: &impl Print, ranks: &[u16]) -> bool {
+    let mut whole = rt.write_all(b"ranks\n").is_ok();
     let mut i = 0;
     while i < ranks.len() {
-        whole = item(wide(ranks[i]), i) && whole;
+        whole = item(rt, wide(ranks[i]), i) && whole;
         i += 1;
     }
     whole
@@ -58,14 +56,14 @@ fn zeros(words: &[u32]) -> usize {
 }
 
 // The storage of a run whose facts take so many words; whether it was written whole.
-pub(crate) fn show(words: &[u32], ranks: &[u16], used: usize) -> bool {
+pub(crate) fn show(rt: &impl Print, words: &[u32], ranks: &[u16], used: usize) -> bool {
     if 9216 < used || words.len() < 9216 {
         return false;
     }
     let count = zeros(&words[used..9216]);
-    let named = io::write_all(STDOUT_FILENO, b"zeros ");
-    let counted = io::print_decimal(STDOUT_FILENO, count as u64);
-    let ended = io::write_all(STDOUT_FILENO, b"\n");
-    let beyond = word_table(&words[9216..]);
-    rank_table(ranks) && named && counted && ended && beyond
+    let named = rt.write_all(b"zeros ").is_ok();
+    let counted = rt.print(count).is_ok();
+    let ended = rt.write_all(b"\n").is_ok();
+    let beyond = word_table(rt, &words[9216..]);
+    rank_table(rt, ranks) && named && counted && ended && beyond
 }
