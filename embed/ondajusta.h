@@ -1,4 +1,4 @@
-/* The proved engine, called from C. Link with target/staticlib/libembed.a, which `rt staticlib embed` makes.
+/* The proved engine, called from C. Link with target/staticlib/libembed.a, which embed/archive makes.
  *
  * A caller lends all storage. No pointer is null, each holds as many elements as the length behind it says, and what a call writes
  * overlaps nothing else that is lent to it. Every byte string gets an answer; nothing is kept between calls, so calls may run side by

@@ -11,7 +11,7 @@ fn main() {
     let archive = folder.join("libembed.a");
     if !archive.is_file() {
         println!(
-            "cargo:warning={} is missing: `rt staticlib embed` makes it",
+            "cargo:warning={} is missing: `embed/archive` makes it",
             archive.display()
         );
     }
