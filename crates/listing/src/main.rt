@@ -1,4 +1,4 @@
-// A job on standard input, its listing on standard output. What is printed is proved in `print`; reading and writing are the library's.
+// A job on standard input, its listing on standard output. What is printed is proved in `print`.
 #![tactic(auto)]
 
 use std::io;
