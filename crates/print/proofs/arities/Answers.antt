@@ -1,10 +1,8 @@
-use borrow.Author.Rules.{rules}
 use native.Mathlib.Omega.{arith}
-use Prim.Native.Nat.{◌-◌}
 use mathlib.Core.Path.{◌≡◌, refl, sym, ap, ◌∙◌}
 use lib.ListN.{take, drop}
 use Rattle.model.specs.Words.{padded}
-use Rattle.print.proofs.Laws.{padded_none, Table, table_more}
+use Rattle.print.proofs.Laws.{padded_none, table_more}
 use Rattle.print.proofs.arities.Goals as goal
 
 pub loop-i-init : goal.loop-i-init

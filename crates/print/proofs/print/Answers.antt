@@ -1,5 +1,4 @@
 -- `print::print` meets its contract. Assumes nothing.
-use borrow.Author.Rules.{rules}
 use Rattle.text.specs.Puts.{Puts}
 use Rattle.text.proofs.Short.{refused_short}
 use Rattle.model.specs.Answer.{listing_of}

@@ -1,5 +1,4 @@
 -- `embed::numbers::of_run` meets its contract. Assumes nothing.
-use borrow.Author.Rules.{rules}
 use Rattle.embed.proofs.numbers.of_run.Goals as goal
 
 pub returns-in-Refused : goal.returns-in-Refused

@@ -1,5 +1,4 @@
 -- `runs::storage::zeros` meets its contract. Assumes nothing.
-use borrow.Author.Rules.{rules}
 use lib.ListN.{length}
 use Prim.Native.Nat.{◌-◌, ◌≤◌}
 use Rattle.runs.proofs.storage.zeros.Given as goal
