@@ -1,8 +1,8 @@
 -- What the exported functions leave: what the engine's and the line writer's contracts say, with the answer as numbers. Assumes nothing.
-use Rattle.std.specs.Prelude.{ℕ, ◌≡◌, List}
+use Rattle.std.specs.Prelude.{ℕ, ◌≡◌, List, Result}
 use Rattle.model.specs.Answer as paper
 use Rattle.engine.specs.Demands.{Ran, Judged}
-use Rattle.lines.specs.declared.Written.{Written}
+use Rattle.fields.specs.declared.Refusal.{Refusal}
 use Rattle.lines.specs.Line.{of_written, LineContract}
 use Rattle.embed.specs.Numbers.{run_numbers, verdict_numbers, line_numbers}
 
@@ -20,6 +20,6 @@ pub record VerdictTold (job ranks numbers ranks' : List ℕ) : Type 0 where
 
 -- a line
 pub record LineTold (words : List ℕ) (arity : ℕ) (lent numbers lent' : List ℕ) : Type 0 where
-  pub answer : Written
+  pub answer : Result ℕ Refusal
   pub written : LineContract words arity lent answer lent'
   pub told : numbers ≡ line_numbers (of_written answer)

@@ -10,7 +10,7 @@ ghost use Rattle.embed.specs.Told.{RunTold, VerdictTold, LineTold};
 pub fn ondajusta_run(job: &[u8], words: &mut [u32], ranks: &mut [u16], answer: &mut [u64; 7])
     ensures { RunTold job.now words.old ranks.old answer.new words.new ranks.new }
 {
-    let ran = engine::run(job, &mut *words, &mut *ranks);
+    let ran = engine::run(job, words, ranks);
     *answer = numbers::of_run(ran);
 }
 
@@ -18,7 +18,7 @@ pub fn ondajusta_run(job: &[u8], words: &mut [u32], ranks: &mut [u16], answer: &
 pub fn ondajusta_verdict(job: &[u8], ranks: &mut [u16], answer: &mut [u64; 3])
     ensures { VerdictTold job.now ranks.old answer.new ranks.new }
 {
-    let judged = engine::verdict(job, &mut *ranks);
+    let judged = engine::verdict(job, ranks);
     *answer = numbers::of_verdict(judged);
 }
 
@@ -26,6 +26,6 @@ pub fn ondajusta_verdict(job: &[u8], ranks: &mut [u16], answer: &mut [u64; 3])
 pub fn ondajusta_line(words: &[u32], arity: usize, line: &mut [u8], answer: &mut [u64; 2])
     ensures { LineTold words.now arity line.old answer.new line.new }
 {
-    let written = lines::line(words, arity, &mut *line);
+    let written = lines::line(words, arity, line);
     *answer = numbers::of_line(written);
 }

@@ -2,19 +2,26 @@
 use Prim.Native.Nat.{ℕ, zero, suc, ◌+◌, ◌-◌, ◌<◌, ◌≤◌}
 use native.Mathlib.Omega.{arith}
 use mathlib.Core.Path.{◌≡◌, refl, sym, ap, ◌∙◌, subst, fun_ext}
-use mathlib.Core.Bool.{Bool, true, false}
+use mathlib.Core.Bool.{Bool, true, false, ◌&&◌}
 use mathlib.Core.List.{List, [], ◌∷◌, ◌++◌, append_assoc, append-nil}
-use lib.ListN.{length}
+use lib.ListN.{length, take, drop, get_or}
+use Rattle.std.proofs.lemmas.List.{get_or-take, get_or-drop, length-drop}
+use Rattle.std.specs.List.{slice_range}
+use Rattle.std.proofs.Math.Seq.{take-length, drop-cons}
 use lib.Dec.{leb}
 use borrow.Author.Tests.{leb-true, le-leb, lt-leb}
 use Rattle.model.specs.Job.{Got, got, refused, Reader, after, pick, times, field, read_byte, read_half, read_word, read_count, read_number, read_up_to}
+use Rattle.std.specs.Prelude.{Result, Err}
+use Rattle.fields.specs.declared.Cursor.{Cursor}
 use Rattle.fields.specs.declared.Refusal.{Refusal}
-use Rattle.fields.specs.declared.Step.{Step}
-use Rattle.fields.specs.declared.Step.TheVariants as S
-use Rattle.fields.specs.Means.{refusal_in, of_step, within, held}
+use Rattle.fields.specs.Means.{number_of, of_read, within, held}
+
+-- ---- a value is no refusal
+pub never : {A : Type 0} (x : A) (p n q : ℕ) → got x p ≡ refused n q → ⊥
+never x p n q e = let z : ◌≡◌ {A = ℕ} 0 1 = cc in omega arith
 
 -- ---- a field that the job holds whole, and one that it ends in
-module _ (n : ℕ) (v : List ℕ → ℕ → ℕ) (bs : List ℕ) (at : ℕ) where
+module _ {A : Type 0} (n : ℕ) (v : List ℕ → ℕ → A) (bs : List ℕ) (at : ℕ) where
   pub field_in : at + n ≤ length bs → got (v bs at) (at + n) ≡ field n v bs at
   unfolding pick
   field_in h = simp (le-leb _ _ h)
@@ -23,22 +30,97 @@ module _ (n : ℕ) (v : List ℕ → ℕ → ℕ) (bs : List ℕ) (at : ℕ) whe
   unfolding pick
   field_out h = simp (lt-leb _ _ h)
 
+-- what n bytes mean, where f reads it off them
+module _ {A : Type 0} (f : List ℕ → A) (b x : List ℕ) (y : A) (p q at : ℕ) where
+  meant : (t : Bool) → f x ≡ y → got b p ≡ pick t (got x q) (refused 3 at) → got (f b) p ≡ pick t (got y q) (refused 3 at)
+  unfolding pick
+  meant true h e =
+      let d : b ≡ x = cc in
+      let c : p ≡ q = cc in
+      rw (d, c, h)
+  meant false h e = absurd (never b p 3 at e)
+
+missing : {A : Type 0} (x : List ℕ) (y : A) (n p q at : ℕ) (t : Bool) → refused n p ≡ pick t (got x q) (refused 3 at) → refused n p ≡ pick t (got y q) (refused 3 at)
+unfolding pick
+missing x y n p q at true e = absurd (never x q n p (sym e))
+missing x y n p q at false e =
+    let c : n ≡ 3 = cc in
+    let d : p ≡ at = cc in
+    rw (c, d)
+
+held_whole : {A : Type 0} (x y : A) (p q at : ℕ) (t : Bool) (P : Type 0) → (t ≡ true → P) → got x p ≡ pick t (got y q) (refused 3 at) → P × (x ≡ y) × (p ≡ q)
+unfolding pick
+held_whole x y p q at true P h e = (h refl, cc, cc)
+held_whole x y p q at false P h e = absurd (never x p 3 at e)
+
+module _ {A : Type 0} (n : ℕ) (v : List ℕ → ℕ → A) (bs : List ℕ) (at : ℕ) where
+  pub field_got : (f : List ℕ → A) (b : List ℕ) (p : ℕ) → f (take n (drop at bs)) ≡ v bs at → got b p ≡ field n (λ cs q. take n (drop q cs)) bs at → got (f b) p ≡ field n v bs at
+  field_got f b p h e = meant f b (take n (drop at bs)) (v bs at) p (at + n) at (leb (at + n) (length bs)) h e
+
+  pub field_missing : (m p : ℕ) → refused m p ≡ field n (λ cs q. take n (drop q cs)) bs at → refused m p ≡ field n v bs at
+  field_missing m p e = missing (take n (drop at bs)) (v bs at) m p (at + n) at (leb (at + n) (length bs)) e
+
+  pub field_inv : (x : A) (p : ℕ) → got x p ≡ field n v bs at → (at + n ≤ length bs) × (x ≡ v bs at) × (p ≡ at + n)
+  field_inv x p e = held_whole x (v bs at) p (at + n) at (leb (at + n) (length bs)) (at + n ≤ length bs) (leb-true _ _) e
+
+-- the first n bytes from a place on
+pub chunk : (n at : ℕ) (bs rest b : List ℕ) → rest ≡ slice_range bs at (length bs) → length rest + at ≡ length bs → n ≤ length rest → b ≡ take n rest →
+    got b (at + n) ≡ field n (λ cs q. take n (drop q cs)) bs at
+chunk n at bs rest b e l h d =
+    let r : rest ≡ drop at bs = e ∙ (ap (λ k. take k (drop at bs)) (sym (length-drop at bs)) ∙ take-length (drop at bs)) in
+    rw (d, r) (field_in n (λ cs q. take n (drop q cs)) bs at (omega arith))
+
+-- byte i of n at a place
+pub byte_of : (n : ℕ) (bs : List ℕ) (at i : ℕ) → i < n → get_or (take n (drop at bs)) i 0 ≡ get_or bs (at + i) 0
+byte_of n bs at i h = get_or-take n (drop at bs) i 0 h ∙ get_or-drop at bs i 0
+
+pub first_byte : (n : ℕ) (bs : List ℕ) (at : ℕ) → 0 < n → get_or (take n (drop at bs)) 0 0 ≡ get_or bs at 0
+first_byte n bs at h =
+    let e : at + 0 ≡ at = omega arith in
+    byte_of n bs at 0 h ∙ ap (λ k. get_or bs k 0) e
+
+-- the mark: all three bytes are right, or one is not
+module _ (at p : ℕ) where
+  pub right : (a b c : Bool) → (a && (b && (c && true))) ≡ true → got (tt {0}) p ≡ after (pick a (got (tt {0}) p) (refused 4 at)) (λ u q. after (pick b (got (tt {0}) q) (refused 4 at)) (λ v r. pick c (got (tt {0}) r) (refused 4 at)))
+  unfolding after pick
+  right true true true e = refl
+  right true true false e = cc
+  right true false c e = cc
+  right false b c e = cc
+
+  pub wrong : (a b c : Bool) → (a && (b && (c && true))) ≡ false → refused 4 at ≡ after (pick a (got (tt {0}) p) (refused 4 at)) (λ u q. after (pick b (got (tt {0}) q) (refused 4 at)) (λ v r. pick c (got (tt {0}) r) (refused 4 at)))
+  unfolding after pick
+  wrong true true true e = cc
+  wrong true true false e = refl
+  wrong true false c e = refl
+  wrong false b c e = refl
+
+-- the three bytes of a field, one by one
+pub three : (bs : List ℕ) (at : ℕ) → at + 3 ≤ length bs → take 3 (drop at bs) ≡ get_or bs at 0 ∷ get_or bs (at + 1) 0 ∷ get_or bs (at + 2) 0 ∷ []
+three bs at h =
+    let a : at < length bs = omega arith in
+    let b : suc at < length bs = omega arith in
+    let c : suc (suc at) < length bs = omega arith in
+    let e : suc at ≡ at + 1 = omega arith in
+    let f : suc (suc at) ≡ at + 2 = omega arith in
+    rw (drop-cons bs at 0 a, drop-cons bs (suc at) 0 b, drop-cons bs (suc (suc at)) 0 c) (cc)
+
 -- ---- the parts of a reader, one after the other
--- a refusal of a part is the refusal of the whole
-pub handed : {A B : Type 0} (g h : Got A) (r x : Refusal) (k : A → ℕ → Got B) →
-    r ≡ refusal_in g → g ≡ h → g ≡ refused x.number x.place → refused r.number r.place ≡ after h k
-unfolding after
-handed g h r x k e f d = rw (e, ← f, d)
+module _ {A B : Type 0} (g : Got A) (k : A → ℕ → Got B) where
+  -- a value that was read goes on to the rest
+  pub goes : (a : A) (p : ℕ) → got a p ≡ g → k a p ≡ after g k
+  unfolding after
+  goes a p e = rw (← e)
+
+  -- a refusal of a part is the refusal of the whole
+  pub handed : (n p : ℕ) → refused n p ≡ g → refused n p ≡ after g k
+  unfolding after
+  handed n p e = rw (← e)
 
 -- the refusal that an answer holds
-pub short : {A : Type 0} (g h : Got A) (r x : Refusal) →
-    r ≡ refusal_in g → g ≡ h → g ≡ refused x.number x.place → h ≡ refused r.number r.place
-short g h r x e f d = rw (e, ← f, d)
-
--- a value that was read goes on to the rest
-pub goes : {A B : Type 0} (g h : Got A) (a : A) (p : ℕ) (k : A → ℕ → Got B) → g ≡ h → g ≡ got a p → k a p ≡ after h k
-unfolding after
-goes g h a p k f d = rw (← f, d)
+pub short : {A B : Type 0} (f : A → B) (r : Result (A × Cursor) Refusal) (e : Refusal) (g : Got B) → r ≡ Err e → of_read f r ≡ g →
+    refused (number_of e.fault) e.place ≡ g
+short f r e g d h = ap (of_read f) (sym d) ∙ h
 
 pub fails : {A B : Type 0} (g : Got A) (n p : ℕ) (k : A → ℕ → Got B) → g ≡ refused n p → refused n p ≡ after g k
 unfolding after
@@ -113,9 +195,6 @@ unfolding pick
 choose_inv P true x y a q f g e = f e
 choose_inv P false x y a q f g e = g e
 
-pub never : {A : Type 0} (x : A) (p n q : ℕ) → got x p ≡ refused n q → ⊥
-never x p n q e = let z : ◌≡◌ {A = ℕ} 0 1 = cc in omega arith
-
 pub same_value : {A : Type 0} (x y : A) (p q : ℕ) → got x p ≡ got y q → x ≡ y
 same_value x y p q e = cc
 
@@ -153,23 +232,6 @@ pub up_to_made : {A : Type 0} (P : A → Type 0) (make : ℕ → A) (hi : ℕ) (
 up_to_made P make hi bs at a q f e =
     let r = after_inv (read_up_to hi bs at) _ a q e in
     subst P (same_value _ a _ q r.3) (f r.0 (up_to_within hi bs at r.0 r.1 r.2))
-
--- ---- an answer that stands beside a step
-pub step_map : {A B : Type 0} (s : Step) (a : A) (f : A → B) → of_step s (f a) ≡ after (of_step s a) (λ x p. got (f x) p)
-unfolding after
-step_map (S.Next c) a f = refl
-step_map (S.Refused r) a f = refl
-
-pub step_post : {A B C : Type 0} (s : Step) (a : A) (g : Got C) (h : C → A) (f : A → B) → of_step s a ≡ after g (λ x p. got (h x) p) →
-    of_step s (f a) ≡ after g (λ x p. got (f (h x)) p)
-step_post s a g h f e = step_map s a f ∙ (ap (λ k. after k (λ x p. got (f x) p)) e ∙ simp (after_after, after_got))
-
-pub step_short : {A : Type 0} (s : Step) (a : A) (r x : Refusal) → r ≡ refusal_in (of_step s (tt {0})) → s ≡ S.Refused x →
-    of_step s a ≡ refused r.number r.place
-step_short s a r x e d = rw (e, d)
-
-pub gives : {A : Type 0} (s : Step) (a : A) (r : Refusal) → s ≡ S.Refused r → of_step s a ≡ refused r.number r.place
-gives s a r e = rw e
 
 -- what is kept of it
 module _ {A B : Type 0} (none : B) (f : A → B) (g : Got A) where

@@ -1,26 +1,36 @@
 -- What each answer of a field reader means: the paper's value with the place after it, or the refusal. Assumes nothing.
-use Rattle.std.specs.Prelude.{ℕ, leb}
+use Rattle.std.specs.Prelude.{ℕ, Result, Ok, Err, leb}
 use Rattle.model.specs.Job.{Got, got, refused, after, pick}
+use Rattle.fields.specs.declared.Cursor.{Cursor}
+use Rattle.fields.specs.declared.Fault.{Fault}
+use Rattle.fields.specs.declared.Fault.TheVariants.{Short, Long, Ends, Mark, Version, Limit, Kind, Relation, Side, Rest}
 use Rattle.fields.specs.declared.Refusal.{Refusal}
-use Rattle.fields.specs.declared.Field.{Field}
-use Rattle.fields.specs.declared.Field.TheVariants as F
-use Rattle.fields.specs.declared.Step.{Step}
-use Rattle.fields.specs.declared.Step.TheVariants as S
 
--- a field's value with the next place, or the refusal
-abbrev pub of_field : Field → Got ℕ
-of_field (F.Value v c) = got v c.at
-of_field (F.Refused r) = refused r.number r.place
+-- the paper's number of a fault
+abbrev pub number_of : Fault → ℕ
+number_of Short = 1
+number_of Long = 2
+number_of Ends = 3
+number_of Mark = 4
+number_of Version = 5
+number_of Limit = 6
+number_of Kind = 7
+number_of Relation = 8
+number_of Side = 9
+number_of Rest = 10
+
+abbrev pub refused_at : Fault → ℕ → Refusal
+refused_at f p = record { fault = f; place = p }
+
+-- what was read, as f says it, with the next place; or the refusal
+abbrev pub of_read : {A B : Type 0} → (A → B) → Result (A × Cursor) Refusal → Got B
+of_read f (Ok x) = got (f x.0) x.1.at
+of_read f (Err r) = refused (number_of r.fault) r.place
 
 -- what stands beside a step, with the next place; or the refusal
-abbrev pub of_step : {A : Type 0} → Step → A → Got A
-of_step (S.Next c) a = got a c.at
-of_step (S.Refused r) a = refused r.number r.place
-
--- the refusal in an answer
-abbrev pub refusal_in : {A : Type 0} → Got A → Refusal
-refusal_in (got a p) = record { number = 0; place = 0 }
-refusal_in (refused n p) = record { number = n; place = p }
+abbrev pub of_step : {A : Type 0} → Result Cursor Refusal → A → Got A
+of_step (Ok c) a = got a c.at
+of_step (Err r) a = refused (number_of r.fault) r.place
 
 -- a number that was read, where it is from lo to hi: refusal 6 at its start otherwise
 unfoldable pub within : ℕ → ℕ → ℕ → Got ℕ → Got ℕ

@@ -1,137 +1,118 @@
 // The fields of a job, each read at a cursor: its value with the next cursor, or the refusal. Nothing is assumed of bytes or cursor.
 // Each answer means what the paper's reader of that field gives, so there is one answer for every job and place.
+// A field's read is taken apart by `let .. else`, as the rules paper has it; what is read of several fields hands its refusal on.
 #![tactic(auto)]
 
-ghost use Rattle.std.specs.Prelude.{◌≡◌, ◌+◌, ◌*◌};
-ghost use Rattle.model.specs.Job.{got, refused, read_byte, read_half, read_word, read_count, read_number, read_up_to, read_mark, read_version, read_end};
-ghost use Rattle.fields.specs.Means.{refusal_in, of_field, of_step, within};
+ghost use Rattle.std.specs.Prelude.{◌≡◌, ◌≤◌, take, drop};
+ghost use Rattle.model.specs.Job.{field, read_byte, read_half, read_word, read_count, read_number, read_up_to, read_mark, read_version, read_end};
+ghost use Rattle.fields.specs.Means.{number_of, refused_at, of_read, of_step, within};
+ghost use Rattle.fields.specs.InTurn.{TimesRead};
+
+use arrayvec::ArrayVec;
 
 // A place in the job.
-#[derive(Clone, Copy)]
+#[derive(Clone, Copy, Debug, PartialEq, Eq)]
 pub struct Cursor {
     pub at: usize,
 }
 
-// The number of a refusal and its place.
-#[derive(Clone, Copy)]
+// What is wrong with a job, in the order of the paper's numbers 1 to 10.
+#[derive(Clone, Copy, Debug, PartialEq, Eq)]
+pub enum Fault {
+    Short,
+    Long,
+    Ends,
+    Mark,
+    Version,
+    Limit,
+    Kind,
+    Relation,
+    Side,
+    Rest,
+}
+
+// A fault and its place.
+#[derive(Clone, Copy, Debug, PartialEq, Eq)]
 pub struct Refusal {
-    pub number: u8,
+    pub fault: Fault,
     pub place: usize,
 }
 
-// What a field holds, with the next cursor; or the refusal.
-#[derive(Clone, Copy)]
-pub enum Field {
-    Value(u32, Cursor),
-    Refused(Refusal),
-}
+// What was read, with the next cursor; or the refusal.
+pub type Read<T> = Result<(T, Cursor), Refusal>;
 
 // The next cursor, or the refusal.
-#[derive(Clone, Copy)]
-pub enum Step {
-    Next(Cursor),
-    Refused(Refusal),
+pub type Step = Result<Cursor, Refusal>;
+
+impl Fault {
+    // The paper's number.
+    pub fn number(self) -> u8
+        ensures { result ≡ number_of self }
+    {
+        match self {
+            Fault::Short => 1,
+            Fault::Long => 2,
+            Fault::Ends => 3,
+            Fault::Mark => 4,
+            Fault::Version => 5,
+            Fault::Limit => 6,
+            Fault::Kind => 7,
+            Fault::Relation => 8,
+            Fault::Side => 9,
+            Fault::Rest => 10,
+        }
+    }
 }
 
 impl Refusal {
-    pub fn new(number: u8, place: usize) -> Self
-        ensures { result ≡ record { number = number; place = place } }
+    pub fn new(fault: Fault, place: usize) -> Self
+        ensures { result ≡ record { fault = fault; place = place } }
     {
-        Refusal { number, place }
+        Refusal { fault, place }
     }
 }
 
-impl Field {
-    // A value, and the place after it.
-    fn new(value: u32, next: usize) -> Self
-        ensures { of_field result ≡ got value next }
-    {
-        Field::Value(value, Cursor { at: next })
-    }
-
-    // A fault at a place.
-    pub fn fault(number: u8, place: usize) -> Self
-        ensures { of_field result ≡ refused number place }
-    {
-        Field::Refused(Refusal { number, place })
-    }
-
-    // The refusal of a field that was not read.
-    pub fn refusal(self) -> Refusal
-        ensures { result ≡ refusal_in (of_field self) }
-    {
-        match self {
-            Field::Refused(r) => r,
-            Field::Value(_, _) => Refusal {
-                number: 0,
-                place: 0,
-            },
-        }
-    }
-
-    // A field whose number is from low to high; refusal 6 at its start otherwise.
-    fn within(self, low: u32, high: u32, start: usize) -> Self
-        ensures { of_field result ≡ within low high start (of_field self) }
-    {
-        let Field::Value(x, next) = self else {
-            return self;
-        };
-        if x < low {
-            return Field::fault(6, start);
-        }
-        if high < x {
-            return Field::fault(6, start);
-        }
-        Field::Value(x, next)
-    }
-}
-
-impl Step {
-    // The place after what was read.
-    fn new(next: usize) -> Self
-        ensures { of_step result (tt {0}) ≡ got (tt {0}) next }
-    {
-        Step::Next(Cursor { at: next })
-    }
-
-    // A fault at a place.
-    fn fault(number: u8, place: usize) -> Self
-        ensures { of_step result (tt {0}) ≡ refused number place }
-    {
-        Step::Refused(Refusal { number, place })
-    }
-
-    // The refusal of a step that was not made.
-    pub fn refusal(self) -> Refusal
-        ensures { result ≡ refusal_in (of_step self (tt {0})) }
-    {
-        match self {
-            Step::Refused(r) => r,
-            Step::Next(_) => Refusal {
-                number: 0,
-                place: 0,
-            },
-        }
-    }
-}
-
-// Numbers are little-endian.
-fn byte_of(a: u8) -> u32
-    ensures { result ≡ a }
+// A fault at a place, in place of what was to be read.
+pub fn refuse<T>(fault: Fault, place: usize) -> Result<T, Refusal>
+    ensures { result ≡ Err (refused_at fault place) }
 {
-    a as u32
+    Err(Refusal::new(fault, place))
 }
 
-fn half_of(a: u8, b: u8) -> u32
-    ensures { result ≡ a + b * 256 }
+// A number that was read, from low to high; refusal 6 at its start otherwise.
+fn within(read: Read<u32>, low: u32, high: u32, start: usize) -> Read<u32>
+    ensures { of_read (λ x. x) result ≡ within low high start (of_read (λ x. x) read) }
 {
-    (a as u32) + (b as u32) * 256
+    let Ok((x, next)) = read else {
+        return read;
+    };
+    if x < low {
+        return refuse(Fault::Limit, start);
+    }
+    if high < x {
+        return refuse(Fault::Limit, start);
+    }
+    Ok((x, next))
 }
 
-fn word_of(a: u8, b: u8, c: u8, d: u8) -> u32
-    ensures { result ≡ a + b * 256 + c * 65536 + d * 16777216 }
+// n of the same, one after the other, in a list; the first refusal is handed on.
+pub fn times<T: Default + Drop, const N: usize, F: Fn(Cursor) -> Read<T>>(
+    from: Cursor,
+    n: usize,
+    read: F,
+) -> Read<ArrayVec<T, N>>
+    requires room { n ≤ N }
+    requires callable { F.IsAlwaysCallable read }
+    ensures { TimesRead (λ c r. F.post read c r) from n result }
 {
-    (a as u32) + (b as u32) * 256 + (c as u32) * 65536 + (d as u32) * 16777216
+    let mut made = ArrayVec::new();
+    let mut cur = from;
+    for _ in 0..n {
+        let (x, next) = read(cur)?;
+        made.push(x);
+        cur = next;
+    }
+    Ok((made, cur))
 }
 
 impl Cursor {
@@ -141,112 +122,89 @@ impl Cursor {
         Cursor { at }
     }
 
+    // A field of N bytes.
+    fn bytes<const N: usize>(self, s: &[u8]) -> Read<[u8; N]>
+        ensures { of_read (λ b. b) result ≡ field N (λ bs at. take N (drop at bs)) s.now self.at }
+    {
+        let at = self.at;
+        let Some(rest) = s.get(at..) else {
+            return refuse(Fault::Ends, at);
+        };
+        let Some(field) = rest.first_chunk::<N>() else {
+            return refuse(Fault::Ends, at);
+        };
+        Ok((*field, Cursor { at: at + N }))
+    }
+
     // A field of one byte.
-    pub fn byte(self, s: &[u8]) -> Field
-        ensures { of_field result ≡ read_byte s.now self.at }
+    pub fn byte(self, s: &[u8]) -> Read<u32>
+        ensures { of_read (λ x. x) result ≡ read_byte s.now self.at }
     {
-        let at = self.at;
-        if at < s.len() {
-            Field::new(byte_of(s[at]), at + 1)
-        } else {
-            Field::fault(3, at)
-        }
+        let ([byte], next) = self.bytes::<1>(s)?;
+        Ok((u32::from(byte), next))
     }
 
-    // A field of two bytes.
-    fn half(self, s: &[u8]) -> Field
-        ensures { of_field result ≡ read_half s.now self.at }
+    // A field of two bytes, little-endian.
+    fn half(self, s: &[u8]) -> Read<u32>
+        ensures { of_read (λ x. x) result ≡ read_half s.now self.at }
     {
-        let at = self.at;
-        if s.len() < 2 {
-            return Field::fault(3, at);
-        }
-        if at <= s.len() - 2 {
-            Field::new(half_of(s[at], s[at + 1]), at + 2)
-        } else {
-            Field::fault(3, at)
-        }
+        let (half, next) = self.bytes::<2>(s)?;
+        Ok((u32::from(u16::from_le_bytes(half)), next))
     }
 
-    // A field of four bytes.
-    fn word(self, s: &[u8]) -> Field
-        ensures { of_field result ≡ read_word s.now self.at }
+    // A field of four bytes, little-endian.
+    fn word(self, s: &[u8]) -> Read<u32>
+        ensures { of_read (λ x. x) result ≡ read_word s.now self.at }
     {
-        let at = self.at;
-        if s.len() < 4 {
-            return Field::fault(3, at);
-        }
-        if at <= s.len() - 4 {
-            Field::new(word_of(s[at], s[at + 1], s[at + 2], s[at + 3]), at + 4)
-        } else {
-            Field::fault(3, at)
-        }
+        let (word, next) = self.bytes::<4>(s)?;
+        Ok((u32::from_le_bytes(word), next))
     }
 
     // A number of one byte, from low to high.
-    pub fn count(self, s: &[u8], low: u32, high: u32) -> Field
-        ensures { of_field result ≡ read_count low high s.now self.at }
+    pub fn count(self, s: &[u8], low: u32, high: u32) -> Read<u32>
+        ensures { of_read (λ x. x) result ≡ read_count low high s.now self.at }
     {
-        let start = self.at;
-        let byte = self.byte(s);
-        byte.within(low, high, start)
+        within(self.byte(s), low, high, self.at)
     }
 
     // A number of two bytes, up to high.
-    pub fn number(self, s: &[u8], high: u32) -> Field
-        ensures { of_field result ≡ read_number high s.now self.at }
+    pub fn number(self, s: &[u8], high: u32) -> Read<u32>
+        ensures { of_read (λ x. x) result ≡ read_number high s.now self.at }
     {
-        let start = self.at;
-        let half = self.half(s);
-        half.within(0, high, start)
+        within(self.half(s), 0, high, self.at)
     }
 
     // A number of four bytes, up to high.
-    pub fn up_to(self, s: &[u8], high: u32) -> Field
-        ensures { of_field result ≡ read_up_to high s.now self.at }
+    pub fn up_to(self, s: &[u8], high: u32) -> Read<u32>
+        ensures { of_read (λ x. x) result ≡ read_up_to high s.now self.at }
     {
-        let start = self.at;
-        let word = self.word(s);
-        word.within(0, high, start)
+        within(self.word(s), 0, high, self.at)
     }
 
     // The mark.
     pub fn mark(self, s: &[u8]) -> Step
         ensures { of_step result (tt {0}) ≡ read_mark s.now self.at }
     {
-        let at = self.at;
-        if s.len() < 3 {
-            return Step::fault(3, at);
+        let (mark, next) = self.bytes::<3>(s)?;
+        if mark == *b"CHS" {
+            Ok(next)
+        } else {
+            refuse(Fault::Mark, self.at)
         }
-        if s.len() - 3 < at {
-            return Step::fault(3, at);
-        }
-        let m = b"CHS";
-        if s[at] != m[0] {
-            return Step::fault(4, at);
-        }
-        if s[at + 1] != m[1] {
-            return Step::fault(4, at);
-        }
-        if s[at + 2] != m[2] {
-            return Step::fault(4, at);
-        }
-        Step::new(at + 3)
     }
 
     // The version is 1.
     pub fn version(self, s: &[u8]) -> Step
         ensures { of_step result (tt {0}) ≡ read_version s.now self.at }
     {
-        let start = self.at;
-        let read = self.half(s);
-        let Field::Value(v, next) = read else {
-            return Step::Refused(read.refusal());
+        let half = self.half(s);
+        let Ok((v, next)) = half else {
+            return Err(half.unwrap_err());
         };
         if v == 1 {
-            Step::Next(next)
+            Ok(next)
         } else {
-            Step::fault(5, start)
+            refuse(Fault::Version, self.at)
         }
     }
 
@@ -254,11 +212,10 @@ impl Cursor {
     pub fn end(self, s: &[u8]) -> Step
         ensures { of_step result (tt {0}) ≡ read_end s.now self.at }
     {
-        let at = self.at;
-        if at == s.len() {
-            Step::Next(self)
+        if self.at == s.len() {
+            Ok(self)
         } else {
-            Step::fault(10, at)
+            refuse(Fault::Rest, self.at)
         }
     }
 }

@@ -11,6 +11,7 @@ pub fn read_full<R: Read>(from: &mut R, buf: &mut [u8]) -> io::Result<usize>
     ensures { ReadsAtMost result buf.new }
 {
     let mut done = 0;
+    // A read may give fewer bytes than were asked for: no range to walk.
     while done < buf.len() {
         let n = from.read(&mut buf[done..])?;
         if n == 0 {

@@ -11,7 +11,9 @@ use Rattle.model.specs.Lines.{line}
 use Rattle.model.specs.Answer as paper
 use Rattle.text.specs.Puts.{Puts}
 use Rattle.laws.proofs.Stores.{sets_front}
-use Rattle.lines.specs.declared.Written.TheVariants.{Refused, Wrote}
+use Rattle.std.specs.Prelude.{Ok, Err}
+use Rattle.fields.specs.declared.Fault.{Fault}
+use Rattle.fields.specs.Means.{number_of, refused_at}
 use Rattle.lines.specs.Line.{LineContract}
 use Rattle.lines.proofs.Text.{line_short}
 
@@ -50,13 +52,13 @@ module _ (words lent : List ℕ) (arity : ℕ) where
     accepted r a b = rw (le-ltb (length words) 9 h, le-ltb (length lent) 128 e, le-ltb 63 (get_or words 0 0) r, le-ltb arity 1 a, le-ltb 8 arity b)
 
   -- a refusal leaves the line as it was
-  pub refuses : (n p : ℕ) → Answers (paper.Written.refusal n p) → LineContract words arity lent (Refused n p) lent
+  pub refuses : (f : Fault) (p : ℕ) → Answers (paper.Written.refusal (number_of f) p) → LineContract words arity lent (Err (refused_at f p)) lent
   unfolding paper.line_after
-  refuses n p a = record { answers = sym a; leaves = rw a }
+  refuses f p a = record { answers = sym a; leaves = rw a }
 
   -- what is written stands in front of what was there
   pub writes : (n : ℕ) (left : List ℕ) → Answers (paper.wrote (length text)) → length text ≤ length lent → Puts text 0 lent n left
-      → LineContract words arity lent (Wrote n) left
+      → LineContract words arity lent (Ok n) left
   unfolding paper.line_after
   writes n left a h p =
       let e : n ≡ length text = omega (arith, p.place) in

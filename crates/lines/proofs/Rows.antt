@@ -1,15 +1,17 @@
 -- Laws of facts held in words: their lines, one after the other. Assumes nothing.
-use Prim.Native.Nat.{ℕ, zero, suc, ◌+◌, ◌*◌, ◌-◌, ◌≤◌, ◌<◌}
+use Prim.Native.Nat.{ℕ, zero, suc, ◌+◌, ◌*◌, ◌/◌, ◌≤◌, ◌<◌}
 use native.Mathlib.Omega.{arith}
-use mathlib.Core.Path.{◌≡◌, ap, ◌∙◌}
-use mathlib.Core.List.{List, [], ◌∷◌, ◌++◌}
+use mathlib.Core.Path.{◌≡◌, refl, sym, ap, ◌∙◌}
+use mathlib.Core.List.{List, [], ◌∷◌, ◌++◌, append-nil, append_assoc}
 use lib.ListN.{length, length-take, length-append, get_or, take, drop}
-use lib.Seq.{drop-drop, get_or-drop}
-use Rattle.model.specs.Facts.{Fact}
-use Rattle.model.specs.Words.{facts_of}
+use lib.Seq.{drop-drop, get_or-drop, get_or-take}
+use Rattle.std.specs.Simd.{first_chunks}
+use Rattle.std.proofs.lemmas.Nat.{le-div}
+use Rattle.std.proofs.lemmas.List.{take-take, drop-take}
+use Rattle.model.specs.Facts.{Fact, fact}
+use Rattle.model.specs.Words.{facts_of, row}
+use Rattle.model.proofs.Rows.{row_length, row_at}
 use Rattle.model.specs.Lines.{line, lines}
-use Rattle.text.specs.Puts.{Puts}
-use Rattle.text.proofs.Puts.{Left, left_start, left_more, left_end, puts_length}
 use Rattle.lines.specs.Rows.{arity_in, fact_at, Row, Rows}
 use Rattle.lines.proofs.Text.{line_short}
 
@@ -20,65 +22,77 @@ row_short words arities i r =
     let k : length (take a (drop (i * 9 + 1) words)) ≤ 8 = rw (length-take) (omega (arith, r.arity)) in
     line_short (get_or words (i * 9) 0) (take a (drop (i * 9 + 1) words)) (omega (arith, r.relation)) k
 
--- the facts from place i on
-abbrev pub facts_from : List ℕ → List ℕ → ℕ → ℕ → List Fact
-facts_from arities words n i = facts_of (arity_in arities) (n - i) (drop (i * 9) words)
+-- the words cut into nine each, as the library cuts them
+chunk_at : (words : List ℕ) (m i : ℕ) (d : List ℕ) → i < m → get_or (first_chunks 9 m words) i d ≡ row words i
+chunk_at words zero i d h = absurd (omega arith)
+chunk_at words (suc m) zero d h = refl
+chunk_at words (suc m) (suc i) d h =
+    let e : 9 + i * 9 ≡ suc i * 9 = omega arith in
+    chunk_at (drop 9 words) m i d (omega arith) ∙ ap (take 9) (drop-drop (i * 9) 9 words ∙ ap (λ k. drop k words) e)
 
-module _ (words arities : List ℕ) (n i : ℕ) where
-  first_fact : (m : ℕ) → facts_of (arity_in arities) (suc m) (drop (i * 9) words) ≡ fact_at arities words i ∷ facts_of (arity_in arities) m (drop ((i + 1) * 9) words)
-  unfolding facts_of
-  first_fact m =
+pub nine_at : (words : List ℕ) (m n i : ℕ) (d : List ℕ) → i < n → i < m → get_or (take n (first_chunks 9 m words)) i d ≡ row words i
+nine_at words m n i d h k = get_or-take n (first_chunks 9 m words) i d h ∙ chunk_at words m i d k
+
+-- there are as many as the facts
+pub rows_held : (words arities : List ℕ) (n : ℕ) → Rows words arities n → n ≤ length words / 9
+rows_held words arities zero f = omega arith
+rows_held words arities (suc n) f = let r = f n (omega arith) in let h = r.held in le-div (suc n) (length words) 9 (omega arith) (omega arith)
+
+-- a row is its nine words
+module _ (words arities r : List ℕ) (i : ℕ) (e : r ≡ row words i) (g : Row words arities i) where
+  named : get_or r 0 0 ≡ get_or words (i * 9) 0
+  named =
       let z : i * 9 + 0 ≡ i * 9 = omega arith in
-      let e : i * 9 + 9 ≡ (i + 1) * 9 = omega arith in
-      rw (get_or-drop (i * 9) words 0 0, z, drop-drop 1 (i * 9) words, drop-drop 9 (i * 9) words, e)
+      ap (λ l. get_or l 0 0) e ∙ row_at words i g.held 0 (omega arith) ∙ ap (λ k. get_or words k 0) z
 
-  pub facts_turn : i < n → lines (facts_from arities words n i) ≡ line (fact_at arities words i) ++ lines (facts_from arities words n (i + 1))
-  unfolding lines
-  facts_turn h =
-      let e : n - i ≡ suc (n - (i + 1)) = omega arith in
-      ap (λ k. lines (facts_of (arity_in arities) k (drop (i * 9) words))) e ∙ ap lines (first_fact (n - (i + 1)))
+  pub nine_row : Row r arities 0
+  nine_row =
+      let n = named in
+      let l = ap length e ∙ row_length words i g.held in
+      record { held = omega arith; known = rw n g.known; relation = rw n g.relation; arity = rw n g.arity }
 
-  pub facts_end : n ≤ i → lines (facts_from arities words n i) ≡ []
-  unfolding lines facts_of
-  facts_end h = let e : n - i ≡ 0 = omega arith in rw e
+  pub nine_fact : fact_at arities r 0 ≡ fact_at arities words i
+  nine_fact =
+      let a : ℕ = arity_in arities (get_or words (i * 9) 0) in
+      let t : take a (drop 1 r) ≡ take a (drop (i * 9 + 1) words) =
+      ap (λ l. take a (drop 1 l)) e
+      ∙ ap (take a) (drop-take 1 8 (drop (i * 9) words) ∙ ap (take 8) (drop-drop 1 (i * 9) words))
+      ∙ take-take a 8 (drop (i * 9 + 1) words) g.arity in
+      ap (λ q. fact q (take (arity_in arities q) (drop 1 r))) named ∙ ap (fact (get_or words (i * 9) 0)) t
 
--- the code's end of a part, less its start
-pub part_size : (s a : ℕ) → s + a - s ≡ a
-part_size s a = omega arith
+-- one fact more
+facts_more : (arities words : List ℕ) (n : ℕ) → facts_of (arity_in arities) (n + 1) words ≡ facts_of (arity_in arities) n words ++ (fact_at arities words n ∷ [])
+unfolding facts_of
+facts_more arities words zero = refl
+facts_more arities words (suc n) =
+    let e : suc n + 1 ≡ suc (n + 1) = omega arith in
+    let z : 9 + n * 9 ≡ suc n * 9 = omega arith in
+    let y : 9 + (n * 9 + 1) ≡ suc n * 9 + 1 = omega arith in
+    let t = facts_more arities (drop 9 words) n in
+    let f : fact_at arities (drop 9 words) n ≡ fact_at arities words (suc n) = rw (get_or-drop 9 words (n * 9) 0, drop-drop (n * 9 + 1) 9 words, z, y) in
+    rw (e, t, f)
 
--- i of n lines are put, and the others are left
-pub record Lined (words arities lent : List ℕ) (n at i next : ℕ) (now : List ℕ) : Type 0 where
-  pub within : i ≤ n
-  pub space : next + (n - i) * 99 ≤ length now
-  pub rest : Left (lines (facts_from arities words n 0)) at lent (lines (facts_from arities words n i)) next now
+lines_append : (fs gs : List Fact) → lines (fs ++ gs) ≡ lines fs ++ lines gs
+unfolding lines
+lines_append [] gs = refl
+lines_append (f ∷ fs) gs = ap (λ t. line f ++ t) (lines_append fs gs) ∙ sym (append_assoc (line f) (lines fs) (lines gs))
 
-module _ (words arities lent : List ℕ) (n at : ℕ) where
-  pub none_yet : Left (lines (facts_from arities words n 0)) at lent (lines (facts_from arities words n 0)) at lent
-  none_yet = left_start (lines (facts_from arities words n 0)) lent at
+pub lines_more : (words arities : List ℕ) (n : ℕ)
+    → lines (facts_of (arity_in arities) (n + 1) words) ≡ lines (facts_of (arity_in arities) n words) ++ line (fact_at arities words n)
+unfolding lines
+lines_more words arities n =
+    ap lines (facts_more arities words n) ∙ (lines_append (facts_of (arity_in arities) n words) (fact_at arities words n ∷ [])
+    ∙ ap (λ t. lines (facts_of (arity_in arities) n words) ++ t) (append-nil (line (fact_at arities words n))))
 
-  pub one_more : (i : ℕ) → i < n → Row words arities i → {next next' : ℕ} {now now' : List ℕ} → Lined words arities lent n at i next now
-      → Puts (line (fact_at arities words i)) next now next' now' → Lined words arities lent n at (i + 1) next' now'
-  one_more i h r f p =
-      record {
-        within = omega arith;
-        space = omega (arith, f.space, p.place, puts_length p, row_short words arities i r);
-        rest = left_more (rw (← facts_turn words arities n i h) f.rest) p;
-      }
-
-  pub all_done : (i : ℕ) → n ≤ i → {next : ℕ} {now : List ℕ} → Lined words arities lent n at i next now
-      → Puts (lines (facts_of (arity_in arities) n words)) at lent next now
-  all_done i h f = let e : n - 0 ≡ n = omega arith in rw e at (left_end (rw (facts_end words arities n i h) at f.rest))
+pub lines_none : (words arities : List ℕ) → lines (facts_of (arity_in arities) 0 words) ≡ []
+unfolding facts_of lines
+lines_none words arities = refl
 
 -- the lines of n facts have at most 99 bytes each
-lines_from : (words arities : List ℕ) (n k i : ℕ) → Rows words arities n → n ≡ i + k → length (lines (facts_from arities words n i)) ≤ k * 99
-lines_from words arities n zero i f e = rw (facts_end words arities n i (omega arith)) (omega arith)
-lines_from words arities n (suc k) i f e =
-    let h : i < n = omega arith in
-    let p : n ≡ i + 1 + k = omega arith in
-    rw (facts_turn words arities n i h, length-append)
-    (omega (arith, row_short words arities i (f i h), lines_from words arities n k (i + 1) f p))
-
 pub lines_short : (words arities : List ℕ) (n : ℕ) → Rows words arities n → length (lines (facts_of (arity_in arities) n words)) ≤ n * 99
-lines_short words arities n f =
-    let e : n - 0 ≡ n = omega arith in
-    rw e at (lines_from words arities n n 0 f (omega arith))
+lines_short words arities zero f = omega (arith, ap length (lines_none words arities))
+lines_short words arities (suc n) f =
+    let e : n + 1 ≡ suc n = omega arith in
+    let t = rw e at (lines_more words arities n) in
+    rw (t, length-append)
+    (omega (arith, row_short words arities n (f n (omega arith)), lines_short words arities n (λ i h. f i (omega arith))))

@@ -1,18 +1,15 @@
 -- Laws of a line's text: its pieces, and that it has at most 99 bytes. Assumes nothing.
-use Prim.Native.Nat.{ℕ, ◌+◌, ◌*◌, ◌-◌, ◌≤◌, ◌<◌}
-use native.Mathlib.Numerals.{add-one}
+use Prim.Native.Nat.{ℕ, zero, suc, ◌+◌, ◌*◌, ◌-◌, ◌≤◌, ◌<◌}
 use native.Mathlib.Omega.{arith}
-use mathlib.Core.Path.{◌≡◌, refl}
+use mathlib.Core.Path.{◌≡◌, refl, sym, ap, ◌∙◌}
 use mathlib.Core.Bool.{Bool, true, false}
-use mathlib.Core.List.{List, [], ◌∷◌, ◌++◌}
-use lib.ListN.{length, length-append, drop, get_or, drop_of_length-le}
-use lib.Seq.{drop-cons}
+use mathlib.Core.List.{List, [], ◌∷◌, ◌++◌, append-nil, append_assoc}
+use lib.ListN.{length, length-append, take, get_or}
 use lib.Dec.{ltb}
 use borrow.Author.Tests.{lt-ltb, le-ltb, ltb-true, ltb-false}
 use Rattle.model.specs.Values.{blanks}
 use Rattle.model.specs.Facts.{fact}
 use Rattle.model.specs.Lines.{decimal, value_text, values_text, line}
-use Rattle.text.proofs.Puts.{Left}
 use Rattle.text.proofs.Decimal.{decimal_many, decimal_few}
 
 pub value_constant : (v : ℕ) → v < blanks → value_text v ≡ decimal v
@@ -31,11 +28,6 @@ value_short v = go (ltb v blanks) refl
     go true e = rw (value_constant v (ltb-true v blanks e)) (omega (arith, decimal_many v))
     go false e = rw (value_blank v (ltb-false v blanks e)) (omega (arith, decimal_many (v - blanks)))
 
--- the values from a place on: the one there behind a space, and the others
-pub values_turn : (vs : List ℕ) (i : ℕ) → i < length vs → values_text (drop i vs) ≡ (0x20 ∷ []) ++ (value_text (get_or vs i 0) ++ values_text (drop (i + 1) vs))
-unfolding values_text
-values_turn vs i h = rw (add-one, drop-cons vs i 0)
-
 pub values_short : (vs : List ℕ) → length (values_text vs) ≤ 12 * length vs
 unfolding values_text
 values_short [] = omega arith
@@ -50,16 +42,24 @@ pub line_pieces : (r : ℕ) (vs : List ℕ) → line (fact r vs) ≡ decimal r +
 unfolding line
 line_pieces r vs = refl
 
--- so many of the values are written, and the others are left
-pub record Passed (vs : List ℕ) (at : ℕ) (lent : List ℕ) (i next : ℕ) (now : List ℕ) : Type 0 where
-  pub within : i ≤ length vs
-  pub rest : Left (values_text vs) at lent (values_text (drop i vs)) next now
+-- one value more
+pub values_more : (vs : List ℕ) (i : ℕ) → i < length vs → values_text (take (i + 1) vs) ≡ values_text (take i vs) ++ (0x20 ∷ value_text (get_or vs i 0))
+unfolding values_text
+values_more [] i h = absurd (omega arith)
+values_more (v ∷ vs) zero h = append-nil (0x20 ∷ value_text v)
+values_more (v ∷ vs) (suc i) h =
+    let e : suc i + 1 ≡ suc (i + 1) = omega arith in
+    rw e (ap (λ t. 0x20 ∷ value_text v ++ t) (values_more vs i (omega arith)) ∙ sym (append_assoc (0x20 ∷ value_text v) (values_text (take i vs)) (0x20 ∷ value_text (get_or vs i 0))))
 
-module _ (vs : List ℕ) {whole lent now : List ℕ} {at next : ℕ} where
-  pub turned : {i : ℕ} → i < length vs → Left whole at lent (values_text (drop i vs)) next now
-      → Left whole at lent ((0x20 ∷ []) ++ (value_text (get_or vs i 0) ++ values_text (drop (i + 1) vs))) next now
-  turned {i} h f = rw (← values_turn vs i h) f
+-- some of the values are no longer than all
+pub values_part : (vs : List ℕ) (i : ℕ) → length (values_text (take i vs)) ≤ length (values_text vs)
+unfolding values_text
+values_part vs zero = omega arith
+values_part [] (suc i) = omega arith
+values_part (v ∷ vs) (suc i) =
+    omega (arith, length-append (value_text v) (values_text (take i vs)), length-append (value_text v) (values_text vs), values_part vs i)
 
-  pub ended : (i : ℕ) → length vs ≤ i → Left whole at lent (values_text (drop i vs)) next now → Left whole at lent [] next now
-  unfolding values_text
-  ended i h f = rw (drop_of_length-le vs h) at f
+-- the next value, behind a space, fits
+pub value_left : (vs : List ℕ) (i : ℕ) → i < length vs → length (values_text (take i vs)) + (1 + length (value_text (get_or vs i 0))) ≤ length (values_text vs)
+value_left vs i h =
+    omega (arith, ap length (values_more vs i h), length-append (values_text (take i vs)) (0x20 ∷ value_text (get_or vs i 0)), values_part vs (i + 1))

@@ -1,18 +1,24 @@
 -- What the line writer promises leaves one answer and one content of the lent bytes. Assumes nothing.
 use Prim.Native.Nat.{ℕ}
-use mathlib.Core.Path.{◌≡◌, sym, ◌∙◌}
+use mathlib.Core.Path.{◌≡◌, sym, ap, ◌∙◌}
 use mathlib.Core.List.{List}
-use Rattle.lines.specs.declared.Written.{Written}
-use Rattle.lines.specs.declared.Written.TheVariants.{Refused, Wrote}
+use Rattle.std.specs.Prelude.{Result, Ok, Err}
+use Rattle.fields.specs.declared.Refusal.{Refusal}
+use Rattle.fields.specs.Means.{number_of}
+use Rattle.fields.proofs.Unique.{fault_one}
 use Rattle.lines.specs.Line.{of_written, LineContract}
 
 -- two answers that mean the same are the same
-pub same_written : (r r' : Written) → of_written r ≡ of_written r' → r ≡ r'
-same_written (Refused n p) (Refused n' p') e = cc
-same_written (Wrote n) (Wrote n') e = cc
-same_written (Refused n p) (Wrote n') e = cc
-same_written (Wrote n) (Refused n' p') e = cc
+pub same_written : (r s : Result ℕ Refusal) → of_written r ≡ of_written s → r ≡ s
+same_written (Err x) (Err y) e =
+    let n : number_of x.fault ≡ number_of y.fault = cc in
+    let p = fault_one x.fault y.fault n in
+    let q : x.place ≡ y.place = cc in
+    λ i. Err (record { fault = p i; place = q i })
+same_written (Ok n) (Ok m) e = let p : n ≡ m = cc in ap Ok p
+same_written (Err x) (Ok m) e = cc
+same_written (Ok n) (Err y) e = cc
 
-pub line_one : (words : List ℕ) (arity : ℕ) (lent : List ℕ) {r r' : Written} {left left' : List ℕ} → LineContract words arity lent r left
+pub line_one : (words : List ℕ) (arity : ℕ) (lent : List ℕ) {r r' : Result ℕ Refusal} {left left' : List ℕ} → LineContract words arity lent r left
     → LineContract words arity lent r' left' → (r ≡ r') × (left ≡ left')
 line_one words arity lent {r} {r'} p q = (same_written r r' (p.answers ∙ sym q.answers), p.leaves ∙ sym q.leaves)

@@ -18,10 +18,11 @@ use lib.Seq.{length-take-le}
 use Rattle.text.specs.Puts.{Puts}
 use Rattle.text.proofs.Puts.{puts_length}
 use Rattle.text.specs.Listing.{first_line, second_line}
-use Rattle.chase.specs.declared.outcome.Ending.{Ending}
 use Rattle.chase.specs.Turned.{outcome_of}
-use Rattle.engine.specs.declared.answer.RunAnswer.{RunAnswer}
-use Rattle.engine.specs.declared.answer.RunAnswer.TheVariants.{Refused, Ran}
+use Rattle.std.specs.Prelude.{Result, Ok, Err}
+use Rattle.fields.specs.declared.Refusal.{Refusal}
+use Rattle.fields.specs.Means.{number_of}
+use Rattle.engine.specs.declared.Ran.{Ran}
 use Rattle.engine.specs.Answers.{run_answer_of}
 use Rattle.engine.specs.Demands as demands
 use Rattle.job.proofs.Accepted.{judged_within}
@@ -144,17 +145,19 @@ module _ (bs words ranks : List ℕ) (few : length words ≡ paper.instance_word
   same_job : paper.run_job bs words ranks ≡ judged false bs
   same_job = rw (few, also)
 
-  pub printed : {words' ranks' : List ℕ} {r : RunAnswer} → demands.Ran bs words ranks (run_answer_of r) words' ranks' → (o : Ending) (n m k : ℕ) (a : Bool) (x : ℕ)
-      → r ≡ Ran o n m k a x → Printed bs words' (outcome_of o) n m k a x
-  printed c o n m k a x e =
-      let l = ran_listing (judged false bs) (outcome_of o) n m k a x (ap run_answer_of (sym e) ∙ (c.answers ∙ ap paper.run_answer same_job)) in
-      printed_job bs _ (outcome_of o) n m k a x l
+  pub printed : {words' ranks' : List ℕ} {r : Result Ran Refusal} → demands.Ran bs words ranks (run_answer_of r) words' ranks' → (a : Ran)
+      → r ≡ Ok a → Printed bs words' (outcome_of a.outcome.ending) a.outcome.steps a.outcome.facts a.outcome.next a.verdict.acyclic a.verdict.generations
+  printed c a e =
+      let o = a.outcome in
+      let v = a.verdict in
+      let l = ran_listing (judged false bs) (outcome_of o.ending) o.steps o.facts o.next v.acyclic v.generations (ap run_answer_of (sym e) ∙ (c.answers ∙ ap paper.run_answer same_job)) in
+      printed_job bs _ (outcome_of o.ending) o.steps o.facts o.next v.acyclic v.generations l
       (c.leaves_words ∙ (ap (paper.words_after words) (same_job ∙ l.from) ∙ words_left l.job l.place words few))
 
-  pub refused_printed : {words' ranks' : List ℕ} {r : RunAnswer} → demands.Ran bs words ranks (run_answer_of r) words' ranks' → (n p : ℕ) → r ≡ Refused n p
-      → paper.listing_of bs ≡ paper.refused_text n p
+  pub refused_printed : {words' ranks' : List ℕ} {r : Result Ran Refusal} → demands.Ran bs words ranks (run_answer_of r) words' ranks' → (x : Refusal) → r ≡ Err x
+      → paper.listing_of bs ≡ paper.refused_text (number_of x.fault) x.place
   unfolding paper.listing_of
-  refused_printed c n p e = refused_listing (judged false bs) n p (ap run_answer_of (sym e) ∙ (c.answers ∙ ap paper.run_answer same_job))
+  refused_printed c x e = refused_listing (judged false bs) (number_of x.fault) x.place (ap run_answer_of (sym e) ∙ (c.answers ∙ ap paper.run_answer same_job))
 
 -- a text that was put and fits is a count of the buffer's bytes
 pub counted : {text lent left : List ℕ} {r : ℕ} → Puts text 0 lent r left → length text ≤ 102400 → 102400 ≤ length lent → IsPrefixLen r left

@@ -9,24 +9,12 @@ ghost use Rattle.model.specs.Answer.{listing_of};
 ghost use Rattle.io.specs.Counts.{IsPrefixLen};
 ghost use Rattle.chase.specs.Turned.{outcome_of};
 ghost use Rattle.text.specs.Puts.{Puts};
-ghost use Rattle.text.specs.Listing.{outcome_said, first_line, second_line};
+ghost use Rattle.text.specs.Writes.{Writes};
+ghost use Rattle.text.specs.Listing.{first_line, second_line};
 ghost use Rattle.lines.specs.Rows.{Rows, arity_in};
 
-use chase::outcome::Ending;
-use engine::answer::RunAnswer;
-use text::listing::Word;
-
-// The word of an ending.
-fn word_of(ending: Ending) -> Word
-    ensures { outcome_said result ≡ outcome_of ending }
-{
-    match ending {
-        Ending::Done => Word::Done,
-        Ending::Failed => Word::Failed,
-        Ending::Steps => Word::Steps,
-        Ending::Room => Word::Room,
-    }
-}
+use engine::Ran;
+use text::Writer;
 
 // The arities that a job declares for its n relations, zero where there is no such relation.
 fn arities(job: &[u8], n: usize) -> [u8; 64]
@@ -34,34 +22,27 @@ fn arities(job: &[u8], n: usize) -> [u8; 64]
     ensures { result ≡ padded 64 (take n (drop 8 job.now)) }
 {
     let mut table = [0u8; 64];
-    let mut i = 0;
-    while i < n {
-        table[i] = job[8 + i];
-        i += 1;
-    }
+    table[..n].copy_from_slice(&job[8..8 + n]);
     table
 }
 
 // The listing of a run.
-fn ran(
-    out: &mut [u8],
-    words: &[u32],
-    table: &[u8],
-    ending: Ending,
-    steps: usize,
-    facts: usize,
-    next: u32,
-    acyclic: bool,
-    generations: u16,
-) -> usize
-    requires rows { Rows words.now table.now facts }
-    requires facts_bound { (facts ≤ 1024) × (102400 ≤ length out.old) }
-    ensures { Puts (first_line (outcome_of ending) steps facts next ++ (second_line acyclic generations ++ lines (facts_of (arity_in table.now) facts words.now))) 0 out.old result out.new }
+#[tactic(auto, using(text::proofs::Short::short_lines))]
+fn listed(w: &mut Writer, words: &[u32], table: &[u8], ran: Ran)
+    requires rows { Rows words.now table.now ran.outcome.facts }
+    requires facts_bound { (ran.outcome.facts ≤ 1024) × (w.old.at + 102400 ≤ length w.old.lent.now) }
+    ensures { Writes (first_line (outcome_of ran.outcome.ending) ran.outcome.steps ran.outcome.facts ran.outcome.next ++ (second_line ran.verdict.acyclic ran.verdict.generations ++ lines (facts_of (arity_in table.now) ran.outcome.facts words.now))) w.old w.new }
 {
-    let word = word_of(ending);
-    let a = text::listing::first_line(&mut *out, 0, word, steps as u64, facts as u64, next as u64);
-    let b = text::listing::second_line(&mut *out, a, acyclic, generations as u64);
-    lines::facts(out, b, words, table, facts)
+    let outcome = ran.outcome;
+    let verdict = ran.verdict;
+    w.first_line(
+        outcome.ending,
+        outcome.steps as u64,
+        outcome.facts as u64,
+        u64::from(outcome.next),
+    );
+    w.second_line(verdict.acyclic, u64::from(verdict.generations));
+    lines::facts(w, words, table, outcome.facts);
 }
 
 // The listing of a job.
@@ -73,31 +54,18 @@ pub fn print(job: &[u8], out: &mut [u8]) -> usize
     let mut words = [0u32; 9216];
     let mut ranks = [0u16; 512];
     let answer = engine::run(job, &mut words, &mut ranks);
+    let mut w = Writer::new(out);
     match answer {
-        RunAnswer::Refused { number, place } => {
-            text::listing::refused_line(out, 0, number as u64, place as u64)
+        Ok(ran) => {
+            let table = arities(job, usize::from(job[7]));
+            listed(&mut w, &words, &table, ran);
+            w.at
         }
-        RunAnswer::Ran {
-            ending,
-            steps,
-            facts,
-            next,
-            acyclic,
-            generations,
-        } => {
-            let n = job[7] as usize;
-            let table = arities(job, n);
-            ran(
-                out,
-                &words,
-                &table,
-                ending,
-                steps,
-                facts,
-                next,
-                acyclic,
-                generations,
-            )
+        Err(refusal) => {
+            let number = u64::from(refusal.fault.number());
+            let place = refusal.place as u64;
+            w.refused_line(number, place);
+            w.at
         }
     }
 }

@@ -1,29 +1,24 @@
--- The loops that read verdict and generations off the words, turn by turn. Assumes nothing.
-use mathlib.Core.Path.{◌≡◌, sym, ap, ◌∙◌}
-use mathlib.Core.Bool.{true, ◌&&◌}
-use mathlib.Core.List.{List}
-use Prim.Native.Nat.{ℕ, ◌+◌, ◌≤◌, ◌<◌, max}
-use native.Mathlib.Numerals.{add-one}
+-- The generations, from the words that are filtered out. Assumes nothing.
+use mathlib.Core.Path.{◌≡◌, refl}
+use mathlib.Core.Bool.{Bool, true, false, cond}
+use mathlib.Core.List.{List, [], ◌∷◌}
+use Prim.Native.Nat.{ℕ, max}
 use native.Mathlib.Omega.{arith}
 use lib.Dec.{ltb}
-use lib.ListN.{length, get_or, drop, drop_of_length-le}
-use lib.Seq.{drop-cons}
-use Rattle.model.specs.Ranks.{pick, all_below, largest}
+use Rattle.std.specs.Option.{unwrap_or}
+use Rattle.std.specs.List.{fold, reduce, filter}
+use Rattle.model.specs.Ranks.{pick, largest}
 
--- the test of what is left
-pub all_step : (n : ℕ) (r : List ℕ) (i : ℕ) → i < length r → all_below n (drop i r) ≡ (ltb (get_or r i 0) n && all_below n (drop (i + 1) r))
-all_step n r i h = ap (all_below n) (drop-cons r i 0 h) ∙ ap (λ (k : ℕ). ltb (get_or r i 0) n && all_below n (drop k r)) (sym (add-one i))
+fold_max : (a : ℕ) (l : List ℕ) → fold max a l ≡ max a (unwrap_or (reduce max l) 0)
+fold_max a [] = omega arith
+fold_max a (x ∷ l) = let e = fold_max (max a x) l in let f = fold_max x l in omega arith
 
-pub all_end : (n : ℕ) (r : List ℕ) (i : ℕ) → length r ≤ i → true ≡ all_below n (drop i r)
-all_end n r i h = ap (all_below n) (sym (drop_of_length-le r h))
-
--- the largest so far, and of what is left
-pub largest_step : (n : ℕ) (r : List ℕ) (i m k all : ℕ) → i < length r → k ≡ max m (pick (ltb (get_or r i 0) n) (get_or r i 0) 0)
-    → max m (largest n (drop i r)) ≡ all → max k (largest n (drop (i + 1) r)) ≡ all
-largest_step n r i m k all h e inv =
-    let q : largest n (drop i r) ≡ max (pick (ltb (get_or r i 0) n) (get_or r i 0) 0) (largest n (drop (i + 1) r)) =
-    ap (largest n) (drop-cons r i 0 h) ∙ ap (λ (j : ℕ). max (pick (ltb (get_or r i 0) n) (get_or r i 0) 0) (largest n (drop j r))) (sym (add-one i)) in
-    omega arith
-
-pub largest_end : (n : ℕ) (r : List ℕ) (i m all : ℕ) → length r ≤ i → max m (largest n (drop i r)) ≡ all → m ≡ all
-largest_end n r i m all h inv = let q : largest n (drop i r) ≡ 0 = ap (largest n) (drop_of_length-le r h) in omega arith
+-- the largest of those below n
+pub largest_filtered : (n : ℕ) (l : List ℕ) → unwrap_or (reduce max (filter (λ x. ltb x n) l)) 0 ≡ largest n l
+largest_filtered n [] = refl
+largest_filtered n (x ∷ l) = go (ltb x n) (largest_filtered n l)
+  where
+    go : (b : Bool) → unwrap_or (reduce max (filter (λ y. ltb y n) l)) 0 ≡ largest n l
+        → unwrap_or (reduce max (cond b (x ∷ filter (λ y. ltb y n) l) (filter (λ y. ltb y n) l))) 0 ≡ max (pick b x 0) (largest n l)
+    go true e = let f = fold_max x (filter (λ y. ltb y n) l) in omega arith
+    go false e = omega arith

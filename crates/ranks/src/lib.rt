@@ -9,10 +9,12 @@ ghost use Rattle.std.specs.Prelude.{◌≤◌, length};
 ghost use Rattle.rules.specs.Rules.{GoodRules};
 ghost use Rattle.ranks.specs.Judges.{Judges};
 
-use rules::Rules;
+use rounds::packed::Packed;
+use rules::Rule;
+use table::{Sizes, Spots};
 
 // The rank of a position: a number of special edges, or 65,535 if there is no largest.
-#[derive(Clone, Copy)]
+#[derive(Clone, Copy, PartialEq, Eq, Debug)]
 pub struct Rank {
     pub word: u16,
 }
@@ -25,20 +27,24 @@ impl Rank {
 }
 
 // Whether the rules are weakly acyclic, and how many times blanks can be invented from invented blanks.
-#[derive(Clone, Copy)]
+#[derive(Clone, Copy, PartialEq, Eq, Debug)]
 pub struct Verdict {
     pub acyclic: bool,
     pub generations: u16,
 }
 
 // The verdict on the rules, with the rank words of all positions set.
-pub fn judge(rules: Rules, ranks: &mut [u16]) -> Verdict
-    requires { GoodRules rules × (512 ≤ length ranks.old) }
-    ensures { Judges rules ranks.old result ranks.new }
+pub fn judge(rules: &[Rule], ranks: &mut [u16]) -> Verdict
+    requires { GoodRules rules.now × (512 ≤ length ranks.old) }
+    ensures { Judges rules.now ranks.old result ranks.new }
 {
-    let n = rules.count;
-    let mut codes = [0u16; 8192];
-    let mut counts = [0usize; 128];
-    table::pack(rules, &mut codes, &mut counts);
-    reading::judged(&codes, &counts, n, &mut ranks[..Rank::WORDS])
+    let mut spots = Spots::new();
+    let mut sizes = Sizes::new();
+    table::pack(rules, &mut spots, &mut sizes);
+    let packed = Packed {
+        spots: spots.as_slice(),
+        sizes: sizes.as_slice(),
+    };
+    let words = ranks.first_chunk_mut().unwrap();
+    reading::judged(packed, words)
 }

@@ -1,65 +1,39 @@
-// Verdict and generations, read off the rank words. Assumes packed rules, and 512 words.
-ghost use Rattle.std.specs.Prelude.{◌≡◌, max, length, ltb};
-ghost use Rattle.model.specs.Ranks.{pick, all_below, largest, positions, rank_words, acyclic, generations};
-ghost use Rattle.rounds.specs.Table.{table, graph, Packed};
+// Verdict and generations, read off the rank words. Assumes nothing.
+ghost use Rattle.std.specs.Prelude.{◌≡◌};
+ghost use Rattle.model.specs.Ranks.{all_below, largest, positions, rank_words, acyclic, generations};
+ghost use Rattle.rounds.specs.Table.{pairs, graph};
 
 use crate::{Rank, Verdict};
+use rounds::packed::{Packed, Ranks};
 use rounds::words::ranked;
 
 // Whether no word is 65,535.
 fn finite(r: &[u16]) -> bool
-    requires { length r.now ≡ 512 }
     ensures { result ≡ all_below 65535 r.now }
 {
-    let mut i = 0;
-    while i < Rank::WORDS {
-        if Rank::ENDLESS <= r[i] {
-            return false;
-        }
-        i += 1;
-    }
-    true
-}
-
-// The larger of m and x, where x counts if it is below 65,535.
-fn larger(m: u16, x: u16) -> u16
-    ensures { result ≡ max m (pick (ltb x 65535) x 0) }
-{
-    if x < Rank::ENDLESS {
-        if m < x {
-            return x;
-        }
-        return m;
-    }
-    m
+    r.iter().all(|x| *x < Rank::ENDLESS)
 }
 
 // The largest word below 65,535.
 fn deepest(r: &[u16]) -> u16
-    requires { length r.now ≡ 512 }
     ensures { result ≡ largest 65535 r.now }
 {
-    let mut m: u16 = 0;
-    let mut i = 0;
-    while i < Rank::WORDS {
-        m = larger(m, r[i]);
-        i += 1;
-    }
-    m
+    r.iter()
+        .copied()
+        .filter(|x| *x < Rank::ENDLESS)
+        .max()
+        .unwrap_or(0)
 }
 
-// The verdict and the rank words of the n rules.
-pub fn judged(codes: &[u16], counts: &[usize], n: usize, r: &mut [u16]) -> Verdict
-    requires { Packed n counts.now codes.now × (length r.old ≡ 512) }
-    ensures words { r.new ≡ rank_words (graph (table n counts.now codes.now)) }
-    ensures acyclic { result.acyclic ≡ acyclic positions (graph (table n counts.now codes.now)) }
-    ensures generations { result.generations ≡ generations positions (graph (table n counts.now codes.now)) }
+// The verdict and the rank words of the rules.
+pub fn judged(rules: Packed, r: &mut Ranks) -> Verdict
+    ensures words { r.new ≡ rank_words (graph (pairs rules.entry)) }
+    ensures acyclic { result.acyclic ≡ acyclic positions (graph (pairs rules.entry)) }
+    ensures generations { result.generations ≡ generations positions (graph (pairs rules.entry)) }
 {
-    ranked(codes, counts, n, r);
-    let a = finite(r);
-    let g = deepest(r);
+    ranked(rules, r);
     Verdict {
-        acyclic: a,
-        generations: g,
+        acyclic: finite(r),
+        generations: deepest(r),
     }
 }

@@ -1,87 +1,77 @@
-// The rules as plain numbers: a code for each variable and its position, one rule after the other, body before head. Assumes good rules.
-ghost use Rattle.std.specs.Prelude.{◌≡◌, cond, [], ◌∷◌, map, ◌+◌, ◌*◌, ◌≤◌, ◌<◌, length};
-ghost use Rattle.std.proofs.lemmas.List.Edits.{sets};
+// The rules packed as spots and sizes, one rule after the other, body before head. Assumes good rules.
+ghost use Rattle.std.specs.Prelude.{◌≡◌, [], ◌∷◌, ◌++◌, ◌+◌, ◌*◌, ◌≤◌, ◌<◌};
+ghost use Rattle.arrayvec.specs.ArrayVec.{array_vec_len};
 ghost use Rattle.rules.specs.Rules.{kind_of, atoms, rules_of, Good, GoodKind, GoodRules};
 ghost use Rattle.model.specs.Edges.{spots_from, spots};
-ghost use Rattle.ranks.specs.Codes.{code_of, atom_codes, Stored, codes_of, counts_of};
+ghost use Rattle.rounds.specs.Table.{spots_in};
+ghost use Rattle.ranks.specs.Packs.{atom_spots, heads_of, spots_of, sizes_of};
 
-use rules::{Kind, Rule, Rules};
+use arrayvec::ArrayVec;
+use rounds::packed::{Size, Spot};
+use rules::{Conclusion, Kind, Rule};
 
-// The code of a variable at position q; a constant has none.
-fn term_in(codes: &mut [u16], used: usize, k: Kind, q: u16) -> usize
-    requires { (used < length codes.old) × GoodKind k × (q < 512) }
-    ensures { Stored codes.old codes.new used result (map code_of (spots_from q (kind_of k ∷ []))) }
+// The spots of all rules: at most 64 in each body and each head.
+pub type Spots = ArrayVec<Spot, 8192>;
+
+pub type Sizes = ArrayVec<Size, 64>;
+
+// The spot of a variable at position q; a constant has none.
+fn term_in(all: &mut Spots, k: Kind, q: u16)
+    requires { (array_vec_len all.old < 8192) × GoodKind k × (q < 512) }
+    ensures { spots_in all.new.items ≡ spots_in all.old.items ++ spots_from q (kind_of k ∷ []) }
 {
-    match k {
-        Kind::Var(x) => {
-            codes[used] = x as u16 * 512 + q;
-            used + 1
-        }
-        Kind::Const(_) => used,
+    if let Kind::Var(x) = k {
+        all.push(Spot { var: x, at: q });
     }
 }
 
-// The codes of the atom at place a of the rule.
-fn atom_in(codes: &mut [u16], used: usize, rule: Rule, a: usize) -> usize
-    requires { (a < 16) × Good rule × (used + 8 ≤ length codes.old) }
-    ensures { Stored codes.old codes.new used result (atom_codes rule a) }
+// The spots of the atom at place a of the rule.
+fn atom_in(all: &mut Spots, rule: &Rule, a: usize)
+    requires { (a < 16) × Good rule.now × (array_vec_len all.old + 8 ≤ 8192) }
+    ensures { spots_in all.new.items ≡ spots_in all.old.items ++ atom_spots rule.now a }
 {
-    let size = rule.lens[a] as usize;
-    let mut end = used;
-    let mut p: usize = 0;
-    let mut q: u16 = 8 * (rule.rels[a] as u16);
-    while p < size {
-        let t = rule.terms[a * 8 + p];
-        let k = t.kind;
-        end = term_in(codes, end, k, q);
-        p += 1;
-        q += 1;
+    let first = 8 * u16::from(rule.shapes[a].rel);
+    for (p, term) in rule.terms_of(a).iter().enumerate() {
+        term_in(all, term.kind, first + p as u16);
     }
-    end
 }
 
-// The codes of k atoms of the rule, from place a on.
-fn atoms_in(codes: &mut [u16], used: usize, rule: Rule, a: usize, k: usize) -> usize
-    requires { (a + k ≤ 16) × Good rule × (used + 8 * k ≤ length codes.old) }
-    ensures { Stored codes.old codes.new used result (map code_of (spots (atoms rule a k))) }
+// The spots of k atoms of the rule, from place a on.
+fn atoms_in(all: &mut Spots, rule: &Rule, a: usize, k: usize)
+    requires { (a + k ≤ 16) × Good rule.now × (array_vec_len all.old + 8 * k ≤ 8192) }
+    ensures { spots_in all.new.items ≡ spots_in all.old.items ++ spots (atoms rule.now a k) }
 {
-    let mut end = used;
-    let mut i: usize = 0;
-    while i < k {
-        end = atom_in(codes, end, rule, a + i);
-        i += 1;
+    for place in a..a + k {
+        atom_in(all, rule, place);
     }
-    end
 }
 
 // How many head atoms give edges: none of an equation's.
-fn heads(rule: Rule) -> usize
-    ensures { result ≡ cond rule.equation 0 rule.head }
+fn heads(rule: &Rule) -> usize
+    ensures { result ≡ heads_of rule.now.conclusion }
 {
-    if rule.equation {
-        return 0;
+    match rule.conclusion {
+        Conclusion::Head(atoms) => atoms,
+        Conclusion::Sides(_, _) => 0,
     }
-    rule.head
 }
 
-// The codes of all rules, and how many each body and each head has.
-pub fn pack(rules: Rules, codes: &mut [u16], counts: &mut [usize])
-    requires { GoodRules rules × (length codes.old ≡ 8192) × (length counts.old ≡ 128) }
-    ensures codes { codes.new ≡ sets codes.old 0 (codes_of (rules_of rules)) }
-    ensures counts { counts.new ≡ sets counts.old 0 (counts_of (rules_of rules)) }
+// The spots of all rules, and how many each body and each head has.
+pub fn pack(rules: &[Rule], all: &mut Spots, sizes: &mut Sizes)
+    requires { GoodRules rules.now × (all.old.items ≡ []) × (sizes.old.items ≡ []) }
+    ensures spots { spots_in all.new.items ≡ spots_of (rules_of rules.now) }
+    ensures sizes { sizes.new.items ≡ sizes_of (rules_of rules.now) }
 {
-    let n = rules.count;
-    let mut used: usize = 0;
-    let mut i: usize = 0;
-    while i < n {
-        let rule = rules.list[i];
+    for rule in rules {
         let b = rule.body;
         let h = heads(rule);
-        let mid = atoms_in(codes, used, rule, 0, b);
-        let end = atoms_in(codes, mid, rule, b, h);
-        counts[2 * i] = mid - used;
-        counts[2 * i + 1] = end - mid;
-        used = end;
-        i += 1;
+        let start = all.len();
+        atoms_in(all, rule, 0, b);
+        let mid = all.len();
+        atoms_in(all, rule, b, h);
+        sizes.push(Size {
+            body: mid - start,
+            head: all.len() - mid,
+        });
     }
 }

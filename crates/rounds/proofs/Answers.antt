@@ -1,4 +1,4 @@
--- The words that the settled numbers give are the rank words, and the loops that set words, turn by turn. Assumes nothing.
+-- The words that the settled numbers give are the rank words. Assumes nothing.
 use mathlib.Core.Path.{◌≡◌, refl, sym, ap, ◌∙◌, subst}
 use mathlib.Core.Logic.{◌⊎◌, inl, inr, ⊎_elim}
 use mathlib.Core.Bool.{Bool}

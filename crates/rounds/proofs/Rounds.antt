@@ -7,161 +7,220 @@ use mathlib.Core.List.Memᴰ.{head as here}
 use mathlib.Core.List.Memᴰ.{not-nil as not-in-nil}
 use mathlib.Core.List.Memᴰ.{tail as there}
 use mathlib.Core.List.{List, [], ◌∷◌}
-use Prim.Native.Nat.{ℕ, zero, suc, ◌-◌, ◌≤◌, ◌<◌, min, max, zero-le}
-use native.Mathlib.Nat.{le_trans, not-suc-le-zero}
+use Prim.Native.Nat.{ℕ, zero, suc, ◌≤◌, ◌<◌, min, max}
+use native.Mathlib.Nat.{le_trans}
 use native.Mathlib.Omega.{arith}
-use lib.Dec.{ltb}
-use borrow.Author.Tests.{ltb-true, lt-ltb}
-use lib.ListN.{length, replicate}
-use Rattle.laws.proofs.Zeros.{zeros_at}
+use Rattle.std.specs.Prelude.{Option, Some, None, IfSome, unwrap_or}
+use lib.ListN.{length, replicate, get_or, set, length-set}
+use Rattle.std.proofs.Common.{get_or-set_same}
 use Rattle.model.specs.Order.{◌∈◌}
 use Rattle.model.specs.Graph.{Edge, plain, special, target, stay, along, across, Reaches}
 use Rattle.model.specs.Edges.{Spot, occurs, fans}
-use Rattle.model.specs.Ranks.{value, raise, offer, pick}
+use Rattle.model.specs.Ranks.{value, raise, offer}
 use Rattle.model.proofs.Raise.{max_is, raise_cases, raise_at, length_raise, Below, below_refl, below_trans, below_value, raise_below}
 use Rattle.model.proofs.RankLaws.{Sound, Capped, Closed}
 use Rattle.model.proofs.EdgeLaws.{spot, occurs_somewhere, somewhere_occurs, FansEdge, fans_edge, edge_fans}
-use Rattle.laws.proofs.Maps.{get_d_mapped}
-use Rattle.rounds.specs.Offers.{raises, lift, mark, top, lowered, gives, pour, offers, rule_round}
+use Rattle.rounds.specs.Offers.{at_least, lift, after, top, pour, offers, rule_round}
 
--- raises
-module _ (place number : Spot → ℕ) where
-  raises_cases : (l : List ℕ) (ss : List Spot) (x : ℕ)
-      → (value (raises place number l ss) x ≡ value l x) ⊎ ((s : Spot) × (s ∈ ss) × (place s ≡ x) × (value (raises place number l ss) x ≡ number s))
-  raises_cases l [] x = inl refl
-  raises_cases l (s ∷ ss) x = go (raises_cases l' ss x) (raise_cases l (place s) (number s) x)
+-- pour
+module _ (offer_of : Spot → ℕ) where
+  pour_cases : (r : List ℕ) (ss : List Spot) (v : ℕ)
+      → (value (pour offer_of r ss) v ≡ value r v) ⊎ ((s : Spot) × (s ∈ ss) × (s.at ≡ v) × (value (pour offer_of r ss) v ≡ offer_of s))
+  pour_cases r [] v = inl refl
+  pour_cases r (s ∷ ss) v = go (pour_cases r' ss v) (raise_cases r s.at (offer_of s) v)
     where
-      l' : List ℕ
-      l' = raise l (place s) (number s)
+      r' : List ℕ
+      r' = raise r s.at (offer_of s)
 
-      go : (value (raises place number l' ss) x ≡ value l' x) ⊎ ((t : Spot) × (t ∈ ss) × (place t ≡ x) × (value (raises place number l' ss) x ≡ number t))
-          → (value l' x ≡ value l x) ⊎ ((x ≡ place s) × (value l' x ≡ number s))
-          → (value (raises place number l' ss) x ≡ value l x) ⊎ ((t : Spot) × (t ∈ (s ∷ ss)) × (place t ≡ x) × (value (raises place number l' ss) x ≡ number t))
+      go : (value (pour offer_of r' ss) v ≡ value r' v) ⊎ ((t : Spot) × (t ∈ ss) × (t.at ≡ v) × (value (pour offer_of r' ss) v ≡ offer_of t))
+          → (value r' v ≡ value r v) ⊎ ((v ≡ s.at) × (value r' v ≡ offer_of s))
+          → (value (pour offer_of r' ss) v ≡ value r v) ⊎ ((t : Spot) × (t ∈ (s ∷ ss)) × (t.at ≡ v) × (value (pour offer_of r' ss) v ≡ offer_of t))
       go (inl e) (inl k) = inl (e ∙ k)
       go (inl e) (inr k) = inr (s, here refl, sym k.0, e ∙ k.1)
       go (inr h) k = inr (h.0, there h.1, h.2, h.3)
 
-  raises_below : (l : List ℕ) (ss : List Spot) → Below l (raises place number l ss)
-  raises_below l [] = below_refl l
-  raises_below l (s ∷ ss) = below_trans (raise_below l (place s) (number s)) (raises_below (raise l (place s) (number s)) ss)
+  pour_below : (r : List ℕ) (ss : List Spot) → Below r (pour offer_of r ss)
+  pour_below r [] = below_refl r
+  pour_below r (s ∷ ss) = below_trans (raise_below r s.at (offer_of s)) (pour_below (raise r s.at (offer_of s)) ss)
 
-  raises_length : (l : List ℕ) (ss : List Spot) → length (raises place number l ss) ≡ length l
-  raises_length l [] = refl
-  raises_length l (s ∷ ss) = raises_length (raise l (place s) (number s)) ss ∙ length_raise l (place s) (number s)
+  pour_length : (r : List ℕ) (ss : List Spot) → length (pour offer_of r ss) ≡ length r
+  pour_length r [] = refl
+  pour_length r (s ∷ ss) = pour_length (raise r s.at (offer_of s)) ss ∙ length_raise r s.at (offer_of s)
 
-  raises_at : (l : List ℕ) (ss : List Spot) (t : Spot) → t ∈ ss → place t < length l → number t ≤ value (raises place number l ss) (place t)
-  raises_at l [] t m h = absurd (not-in-nil m)
-  raises_at l (s ∷ ss) t m h = go (λ m'. raises_at l' ss t m' (let e = length_raise l (place s) (number s) in omega arith)) (cases_cons m)
+  pour_at : (r : List ℕ) (ss : List Spot) (t : Spot) → t ∈ ss → t.at < length r → offer_of t ≤ value (pour offer_of r ss) t.at
+  pour_at r [] t m h = absurd (not-in-nil m)
+  pour_at r (s ∷ ss) t m h = go (λ m'. pour_at r' ss t m' (let e = length_raise r s.at (offer_of s) in omega arith)) (cases_cons m)
     where
-      l' : List ℕ
-      l' = raise l (place s) (number s)
+      r' : List ℕ
+      r' = raise r s.at (offer_of s)
 
-      first : place s < length l → number s ≤ value (raises place number l' ss) (place s)
-      first h' = le_trans (raise_at l (place s) (number s) h') (below_value (raises_below l' ss) (place s))
+      first : s.at < length r → offer_of s ≤ value (pour offer_of r' ss) s.at
+      first h' = le_trans (raise_at r s.at (offer_of s) h') (below_value (pour_below r' ss) s.at)
 
-      go : (t ∈ ss → number t ≤ value (raises place number l' ss) (place t)) → (t ≡ s) ⊎ (t ∈ ss) → number t ≤ value (raises place number l' ss) (place t)
+      go : (t ∈ ss → offer_of t ≤ value (pour offer_of r' ss) t.at) → (t ≡ s) ⊎ (t ∈ ss) → offer_of t ≤ value (pour offer_of r' ss) t.at
       go f (inl e) =
-          subst (λ (u : Spot). number u ≤ value (raises place number l' ss) (place u)) (sym e)
-          (first (subst (λ (u : Spot). place u < length l) e h))
+          subst (λ (u : Spot). offer_of u ≤ value (pour offer_of r' ss) u.at) (sym e)
+          (first (subst (λ (u : Spot). u.at < length r) e h))
       go f (inr m') = f m'
+
+-- lift
+
+abbrev known : List (Option ℕ) → ℕ → Option ℕ
+known b x = get_or b x None
+
+-- at least w is known
+abbrev AtLeast : Option ℕ → ℕ → Type 0
+AtLeast o w = (k : ℕ) × (o ≡ Some k) × (w ≤ k)
+
+set_cases : (b : List (Option ℕ)) (n : ℕ) (o : Option ℕ) (x : ℕ) → (known (set b n o) x ≡ known b x) ⊎ ((x ≡ n) × (known (set b n o) x ≡ o))
+set_cases [] n o x = inl refl
+set_cases (y ∷ b) zero o zero = inr (refl, refl)
+set_cases (y ∷ b) zero o (suc x) = inl refl
+set_cases (y ∷ b) (suc n) o zero = inl refl
+set_cases (y ∷ b) (suc n) o (suc x) = ⊎_elim (λ e. inl e) (λ e. inr (ap suc e.0, e.1)) (set_cases b n o x)
+
+at_least_is : (o : Option ℕ) (w : ℕ) → (at_least o w ≡ o) ⊎ (at_least o w ≡ Some w)
+at_least_is None w = inr refl
+at_least_is (Some y) w = ⊎_elim (λ e. inl (ap (λ (n : ℕ). Some n) e)) (λ e. inr (ap (λ (n : ℕ). Some n) e)) (max_is y w)
+
+at_least_new : (o : Option ℕ) (w : ℕ) → AtLeast (at_least o w) w
+at_least_new None w = (w, refl, omega arith)
+at_least_new (Some y) w = (max y w, refl, omega arith)
+
+at_least_old : (o : Option ℕ) (w v : ℕ) → AtLeast o v → AtLeast (at_least o w) v
+at_least_old None w v h = absurd (let e = h.1 in cc)
+at_least_old (Some y) w v h = let e : y ≡ h.0 = let q = h.1 in cc in let l = h.2 in (max y w, refl, omega arith)
+
+module _ (r : List ℕ) where
+  lift_cases : (b : List (Option ℕ)) (ss : List Spot) (x : ℕ)
+      → (known (lift b r ss) x ≡ known b x) ⊎ ((s : Spot) × (s ∈ ss) × (s.name ≡ x) × (known (lift b r ss) x ≡ Some (value r s.at)))
+  lift_cases b [] x = inl refl
+  lift_cases b (s ∷ ss) x = go (lift_cases b' ss x) (set_cases b s.name (at_least (known b s.name) (value r s.at)) x)
+    where
+      b' : List (Option ℕ)
+      b' = set b s.name (at_least (known b s.name) (value r s.at))
+
+      go : (known (lift b' r ss) x ≡ known b' x) ⊎ ((t : Spot) × (t ∈ ss) × (t.name ≡ x) × (known (lift b' r ss) x ≡ Some (value r t.at)))
+          → (known b' x ≡ known b x) ⊎ ((x ≡ s.name) × (known b' x ≡ at_least (known b s.name) (value r s.at)))
+          → (known (lift b' r ss) x ≡ known b x) ⊎ ((t : Spot) × (t ∈ (s ∷ ss)) × (t.name ≡ x) × (known (lift b' r ss) x ≡ Some (value r t.at)))
+      go (inl e) (inl k) = inl (e ∙ k)
+      go (inl e) (inr k) =
+          ⊎_elim (λ o. inl (e ∙ k.1 ∙ o ∙ ap (known b) (sym k.0))) (λ o. inr (s, here refl, sym k.0, e ∙ k.1 ∙ o)) (at_least_is (known b s.name) (value r s.at))
+      go (inr h) k = inr (h.0, there h.1, h.2, h.3)
+
+  pub lift_length : (b : List (Option ℕ)) (ss : List Spot) → length (lift b r ss) ≡ length b
+  lift_length b [] = refl
+  lift_length b (s ∷ ss) = lift_length (set b s.name (at_least (known b s.name) (value r s.at))) ss ∙ length-set b s.name (at_least (known b s.name) (value r s.at))
+
+  lift_keeps : (b : List (Option ℕ)) (ss : List Spot) (x w : ℕ) → AtLeast (known b x) w → AtLeast (known (lift b r ss) x) w
+  lift_keeps b [] x w h = h
+  lift_keeps b (s ∷ ss) x w h =
+      let b' : List (Option ℕ) = set b s.name (at_least (known b s.name) (value r s.at)) in
+      lift_keeps b' ss x w
+      (⊎_elim (λ e. subst (λ (o : Option ℕ). AtLeast o w) (sym e) h)
+      (λ e. subst (λ (o : Option ℕ). AtLeast o w) (sym e.1) (at_least_old (known b s.name) (value r s.at) w (subst (λ (n : ℕ). AtLeast (known b n) w) e.0 h)))
+      (set_cases b s.name (at_least (known b s.name) (value r s.at)) x))
+
+  lift_at : (b : List (Option ℕ)) (ss : List Spot) (t : Spot) → t ∈ ss → t.name < length b → AtLeast (known (lift b r ss) t.name) (value r t.at)
+  lift_at b [] t m h = absurd (not-in-nil m)
+  lift_at b (s ∷ ss) t m h = go (λ m'. lift_at b' ss t m' (let e = length-set b s.name o in omega arith)) (cases_cons m)
+    where
+      o : Option ℕ
+      o = at_least (known b s.name) (value r s.at)
+
+      b' : List (Option ℕ)
+      b' = set b s.name o
+
+      first : s.name < length b → AtLeast (known (lift b' r ss) s.name) (value r s.at)
+      first l =
+          lift_keeps b' ss s.name (value r s.at)
+          (subst (λ (p : Option ℕ). AtLeast p (value r s.at)) (sym (get_or-set_same b s.name o None l)) (at_least_new (known b s.name) (value r s.at)))
+
+      go : (t ∈ ss → AtLeast (known (lift b' r ss) t.name) (value r t.at)) → (t ≡ s) ⊎ (t ∈ ss) → AtLeast (known (lift b' r ss) t.name) (value r t.at)
+      go f (inl e) =
+          subst (λ (u : Spot). AtLeast (known (lift b' r ss) u.name) (value r u.at)) (sym e)
+          (first (subst (λ (u : Spot). u.name < length b) e h))
+      go f (inr m') = f m'
+
+none_at : (n x : ℕ) → known (replicate n None) x ≡ None
+none_at zero x = refl
+none_at (suc n) zero = refl
+none_at (suc n) (suc x) = none_at n x
 
 -- top
 
-top_is : (b h : List ℕ) → (top b h ≡ 0) ⊎ ((x : ℕ) × (0 < value h x) × (value b x ≡ top b h))
-top_is [] h = inl refl
-top_is (y ∷ b) [] = inl refl
-top_is (y ∷ b) (z ∷ h) = go (ltb 0 z) refl (top_is b h)
-  where
-    go : (t : Bool) → ltb 0 z ≡ t → (top b h ≡ 0) ⊎ ((x : ℕ) × (0 < value h x) × (value b x ≡ top b h))
-        → (max (pick t y 0) (top b h) ≡ 0) ⊎ ((x : ℕ) × (0 < value (z ∷ h) x) × (value (y ∷ b) x ≡ max (pick t y 0) (top b h)))
-    go false e (inl p) = inl (omega arith)
-    go false e (inr p) = let k = p.2 in inr (suc p.0, p.1, omega arith)
-    go true e (inl p) = inr (zero, ltb-true 0 z e, omega arith)
-    go true e (inr p) =
-        ⊎_elim (λ q. inr (zero, ltb-true 0 z e, sym q)) (λ q. inr (suc p.0, p.1, p.2 ∙ sym q)) (max_is y (top b h))
+after_is : (o : Option ℕ) → (after o ≡ 0) ⊎ ((k : ℕ) × (o ≡ Some k) × (after o ≡ suc k))
+after_is None = inl refl
+after_is (Some k) = inr (k, refl, refl)
 
-top_at : (b h : List ℕ) (x : ℕ) → 0 < value h x → value b x ≤ top b h
-top_at [] h x l = zero-le
-top_at (y ∷ b) [] x l = absurd (not-suc-le-zero l)
-top_at (y ∷ b) (z ∷ h) zero l = let e = ap (λ (t : Bool). pick t y 0) (lt-ltb 0 z l) in omega arith
-top_at (y ∷ b) (z ∷ h) (suc x) l = let k = top_at b h x l in omega arith
+top_is : (b : List (Option ℕ)) (ss : List Spot) → (top b ss ≡ 0) ⊎ ((s : Spot) × (s ∈ ss) × (k : ℕ) × (known b s.name ≡ Some k) × (top b ss ≡ suc k))
+top_is b [] = inl refl
+top_is b (s ∷ ss) =
+    ⊎_elim (λ e. ⊎_elim (λ z. inl (e ∙ z)) (λ p. inr (s, here refl, p.0, p.1, e ∙ p.2)) (after_is (known b s.name)))
+    (λ e. ⊎_elim (λ z. inl (e ∙ z)) (λ p. inr (p.0, there p.1, p.2, p.3, e ∙ p.4)) (top_is b ss))
+    (max_is (after (known b s.name)) (top b ss))
 
--- gives
-
-gives_zero : (t : ℕ) (b : List ℕ) (x : ℕ) → x < length b → value b x ≡ 0 → value (gives t b) x ≡ t
-gives_zero t b x l e = get_d_mapped (lowered t) b x 0 0 l ∙ ap (lowered t) e
-
-gives_suc : (t : ℕ) (b : List ℕ) (x v : ℕ) → x < length b → value b x ≡ suc v → value (gives t b) x ≡ v
-gives_suc t b x v l e = get_d_mapped (lowered t) b x 0 0 l ∙ ap (lowered t) e ∙ ap (λ (u : Bool). pick u (suc v - 1) t) (lt-ltb 0 (suc v) (omega arith)) ∙ omega arith
+top_at : (b : List (Option ℕ)) (ss : List Spot) (s : Spot) (k : ℕ) → s ∈ ss → known b s.name ≡ Some k → suc k ≤ top b ss
+top_at b [] s k m e = absurd (not-in-nil m)
+top_at b (t ∷ ss) s k m e =
+    ⊎_elim (λ q. let a : after (known b t.name) ≡ suc k = ap (λ (u : Spot). after (known b u.name)) (sym q) ∙ ap after e in omega arith)
+    (λ i. let l = top_at b ss s k i e in omega arith) (cases_cons m)
 
 -- a round only raises, and keeps the length
 pub round_below : (c : ℕ) (r : List ℕ) (body head : List Spot) → Below r (rule_round c r body head)
 unfolding rule_round
-round_below c r body head = raises_below _ _ r head
+round_below c r body head = pour_below _ r head
 
 pub round_length : (c : ℕ) (r : List ℕ) (body head : List Spot) → length (rule_round c r body head) ≡ length r
 unfolding rule_round
-round_length c r body head = raises_length _ _ r head
+round_length c r body head = pour_length _ r head
+
+-- what the body gives is a rank
+pub lift_small : (r : List ℕ) (body : List Spot) → ((v : ℕ) → value r v ≤ 512) → (x : ℕ) → IfSome (known (lift (replicate 16 None) r body) x) (λ v. v < 65535)
+lift_small r body h x =
+    ⊎_elim (λ z. subst (λ (o : Option ℕ). IfSome o (λ v. v < 65535)) (sym (z ∙ none_at 16 x)) tt)
+    (λ p. subst (λ (o : Option ℕ). IfSome o (λ v. v < 65535)) (sym p.3) (let l = h p.0.at in omega arith))
+    (lift_cases r (replicate 16 None) body x)
 
 -- one rule
 
--- names below 16
-abbrev pub Small : List Spot → Type 0
-Small ss = (s : Spot) → s ∈ ss → s.name < 16
+module _ (c : ℕ) (r : List ℕ) (body head : List Spot) (small : (s : Spot) → s ∈ body → s.name < 16) where
+  best : List (Option ℕ)
+  best = lift (replicate 16 None) r body
 
-module _ (c : ℕ) (r : List ℕ) (body head : List Spot) (small_b : Small body) (small-h : Small head) where
-  best : List ℕ
-  best = lift (replicate 16 0) r body
-
-  held : List ℕ
-  held = mark (replicate 16 0) head
-
-  best_long : length best ≡ 16
+  -- what stands in `best`: nothing, or the rank at a place of the variable
+  best_is : (x : ℕ) → (known best x ≡ None) ⊎ ((s : Spot) × (s ∈ body) × (s.name ≡ x) × (known best x ≡ Some (value r s.at)))
   unfolding best
-  best_long = raises_length _ _ (replicate 16 0) body
+  best_is x = ⊎_elim (λ e. inl (e ∙ none_at 16 x)) (λ h. inr h) (lift_cases r (replicate 16 None) body x)
 
-  -- what stands in `best`: 0, or one more than the rank at a place of the variable
-  best_is : (x : ℕ) → (value best x ≡ 0) ⊎ ((s : Spot) × (s ∈ body) × (s.name ≡ x) × (value best x ≡ suc (value r s.at)))
+  best_at : (s : Spot) → s ∈ body → AtLeast (known best s.name) (value r s.at)
   unfolding best
-  best_is x = ⊎_elim (λ e. inl (e ∙ zeros_at 16 x)) (λ h. inr h) (raises_cases _ _ (replicate 16 0) body x)
+  best_at s m = lift_at r (replicate 16 None) body s m (small s m)
 
-  best_at : (s : Spot) → s ∈ body → suc (value r s.at) ≤ value best s.name
-  unfolding best
-  best_at s m = raises_at _ _ (replicate 16 0) body s m (small_b s m)
+  offer_of : Spot → ℕ
+  offer_of = offers c r body head
 
-  held_is : (x : ℕ) → 0 < value held x → (s : Spot) × (s ∈ head) × (s.name ≡ x)
-  unfolding held
-  held_is x h =
-      ⊎_elim (λ e. absurd (let z = zeros_at 16 x in omega arith)) (λ p. (p.0, p.1, p.2)) (raises_cases (λ s. s.name) (λ s. 1) (replicate 16 0) head x)
+  offer_none : (s : Spot) → known best s.name ≡ None → offer_of s ≡ min (top best head) c
+  unfolding offer_of best
+  offer_none s e = ap (λ (o : Option ℕ). unwrap_or o (min (top best head) c)) e
 
-  held_at : (s : Spot) → s ∈ head → 0 < value held s.name
-  unfolding held
-  held_at s m = raises_at _ _ (replicate 16 0) head s m (small-h s m)
-
-  given : List ℕ
-  given = offers c r body head
-
-  given_zero : (s : Spot) → s ∈ head → value best s.name ≡ 0 → value given s.name ≡ min c (top best held)
-  unfolding given best held
-  given_zero s m e = gives_zero (min c (top best held)) best s.name (let l = small-h s m in let k = best_long in omega arith) e
-
-  given_suc : (s : Spot) (v : ℕ) → s ∈ head → value best s.name ≡ suc v → value given s.name ≡ v
-  unfolding given best held
-  given_suc s v m e = gives_suc (min c (top best held)) best s.name v (let l = small-h s m in let k = best_long in omega arith) e
+  offer_some : (s : Spot) (v : ℕ) → known best s.name ≡ Some v → offer_of s ≡ v
+  unfolding offer_of best
+  offer_some s v e = ap (λ (o : Option ℕ). unwrap_or o (min (top best head) c)) e
 
   -- what stands after the round: what stood there, or an offer of the head
-  round_is : (v : ℕ) → (value (pour given r head) v ≡ value r v) ⊎ ((s : Spot) × (s ∈ head) × (s.at ≡ v) × (value (pour given r head) v ≡ value given s.name))
-  round_is v = raises_cases (λ s. s.at) (λ s. value given s.name) r head v
+  round_is : (v : ℕ) → (value (pour offer_of r head) v ≡ value r v) ⊎ ((s : Spot) × (s ∈ head) × (s.at ≡ v) × (value (pour offer_of r head) v ≡ offer_of s))
+  round_is v = pour_cases offer_of r head v
 
-  not_there : (x : ℕ) → value best x ≡ 0 → occurs x body ≡ false
+  not_there : (x : ℕ) → known best x ≡ None → occurs x body ≡ false
   not_there x e = go (occurs x body) refl
     where
       go : (b : Bool) → occurs x body ≡ b → b ≡ false
       go false h = refl
-      go true h = let p = occurs_somewhere x body h in let l = best_at (spot x p.0) p.1 in absurd (omega arith)
+      go true h = let p = occurs_somewhere x body h in let l = best_at (spot x p.0) p.1 in absurd (let q = l.1 in cc)
 
-  zero_there : (x : ℕ) → occurs x body ≡ false → value best x ≡ 0
-  zero_there x h =
+  none_there : (x : ℕ) → occurs x body ≡ false → known best x ≡ None
+  none_there x h =
       ⊎_elim (λ e. e)
       (λ p.
       let k = somewhere_occurs p.0.name p.0.at body p.1 in
@@ -175,90 +234,86 @@ module _ (c : ℕ) (r : List ℕ) (body head : List Spot) (small_b : Small body)
 
   module _ (g : List Edge) (sub : (e : Edge) → e ∈ fans body body head → e ∈ g) where
     -- each offer is reached
-    given_reaches : Sound g r → (t : Spot) → t ∈ head → Reaches g t.at (value given t.name)
-    given_reaches sound t m = ⊎_elim free bound (best_is t.name)
+    offer_reaches : Sound g r → (t : Spot) → t ∈ head → Reaches g t.at (offer_of t)
+    offer_reaches sound t m = ⊎_elim free bound (best_is t.name)
       where
-        bound : (s : Spot) × (s ∈ body) × (s.name ≡ t.name) × (value best t.name ≡ suc (value r s.at)) → Reaches g t.at (value given t.name)
+        bound : (s : Spot) × (s ∈ body) × (s.name ≡ t.name) × (known best t.name ≡ Some (value r s.at)) → Reaches g t.at (offer_of t)
         bound p =
             let s = p.0 in
-            let e = given_suc t (value r s.at) m p.3 in
+            let e = offer_some t (value r s.at) p.3 in
             let i = sub (plain s.at t.at) (edge_fans body body head (plain s.at t.at) (s, p.1, occurs_head s.name t m (sym p.2), (t, m, inl (p.2, refl)))) in
             let q = sound s.at in
             let l = q.3 in
             (q.0, q.1, along q.2 i, omega arith)
 
-        free : value best t.name ≡ 0 → Reaches g t.at (value given t.name)
-        free z = ⊎_elim none some (top_is best held)
+        free : known best t.name ≡ None → Reaches g t.at (offer_of t)
+        free z = ⊎_elim none some (top_is best head)
           where
-            e : value given t.name ≡ min c (top best held)
-            e = given_zero t m z
+            e : offer_of t ≡ min (top best head) c
+            e = offer_none t z
 
-            none : top best held ≡ 0 → Reaches g t.at (value given t.name)
+            none : top best head ≡ 0 → Reaches g t.at (offer_of t)
             none k = (t.at, 0, stay, omega (arith, e))
 
-            some : (x : ℕ) × (0 < value held x) × (value best x ≡ top best held) → Reaches g t.at (value given t.name)
-            some p = ⊎_elim (λ k. none (let l = p.2 in omega arith)) far (best_is p.0)
+            some : (u : Spot) × (u ∈ head) × (k : ℕ) × (known best u.name ≡ Some k) × (top best head ≡ suc k) → Reaches g t.at (offer_of t)
+            some p = ⊎_elim (λ n. absurd (let q = p.3 in cc)) far (best_is p.0.name)
               where
-                far : (s : Spot) × (s ∈ body) × (s.name ≡ p.0) × (value best p.0 ≡ suc (value r s.at)) → Reaches g t.at (value given t.name)
+                far : (s : Spot) × (s ∈ body) × (s.name ≡ p.0.name) × (known best p.0.name ≡ Some (value r s.at)) → Reaches g t.at (offer_of t)
                 far w =
                     let s = w.0 in
-                    let u = held_is p.0 p.1 in
                     let i =
                     sub (special s.at t.at)
                     (edge_fans body body head (special s.at t.at)
-                    (s, w.1, occurs_head s.name u.0 u.1 (u.2 ∙ sym w.2), (t, m, inr (not_there t.name z, refl)))) in
+                    (s, w.1, occurs_head s.name p.0 p.1 (sym w.2), (t, m, inr (not_there t.name z, refl)))) in
                     let q = sound s.at in
                     let l = q.3 in
-                    let k = w.3 in
-                    let k₂ = p.2 in
+                    let same : p.2 ≡ value r s.at = let a = p.3 in let b = w.3 in cc in
+                    let k = p.4 in
                     (q.0, suc q.1, across q.2 i, omega (arith, e))
 
     pub round_sound : Sound g r → Sound g (rule_round c r body head)
-    unfolding rule_round given
+    unfolding rule_round offer_of
     round_sound sound v =
         ⊎_elim (λ e. subst (Reaches g v) (sym e) (sound v))
-        (λ p. subst (λ (w : ℕ). Reaches g w (value (pour given r head) v)) p.2 (subst (Reaches g p.0.at) (sym p.3) (given_reaches sound p.0 p.1)))
+        (λ p. subst (λ (w : ℕ). Reaches g w (value (pour offer_of r head) v)) p.2 (subst (Reaches g p.0.at) (sym p.3) (offer_reaches sound p.0 p.1)))
         (round_is v)
 
   pub round_capped : Capped c r → Capped c (rule_round c r body head)
-  unfolding rule_round given
+  unfolding rule_round offer_of
   round_capped h v =
       ⊎_elim (λ e. let l = h v in omega arith)
       (λ p.
       let k = p.3 in
-      ⊎_elim (λ z. let e = given_zero p.0 p.1 z in omega arith)
-      (λ q. let e = given_suc p.0 (value r q.0.at) p.1 q.3 in let l = h q.0.at in omega arith)
+      ⊎_elim (λ z. let e = offer_none p.0 z in omega arith)
+      (λ q. let e = offer_some p.0 (value r q.0.at) q.3 in let l = h q.0.at in omega arith)
       (best_is p.0.name))
       (round_is v)
 
   -- nothing rose: each edge has what it asks
   pub round_closed : ((t : Spot) → t ∈ head → t.at < length r) → Below (rule_round c r body head) r → Closed c (fans body body head) r
-  unfolding rule_round given
+  unfolding rule_round offer_of
   round_closed inside still e m = go e (fans_edge body body head e m)
     where
-      at : (t : Spot) → t ∈ head → value given t.name ≤ value r t.at
-      at t i = le_trans (raises_at _ _ r head t i (inside t i)) (below_value still t.at)
+      at : (t : Spot) → t ∈ head → offer_of t ≤ value r t.at
+      at t i = le_trans (pour_at offer_of r head t i (inside t i)) (below_value still t.at)
 
       kind : (e : Edge) (s t : Spot) → s ∈ body → occurs s.name head ≡ true → t ∈ head
           → ((s.name ≡ t.name) × (e ≡ plain s.at t.at)) ⊎ ((occurs t.name body ≡ false) × (e ≡ special s.at t.at))
           → offer c r e ≤ value r (target e)
       kind e s t i o j (inl h) =
           subst (λ (x : Edge). offer c r x ≤ value r (target x)) (sym h.1)
-          (⊎_elim (λ z. absurd (let l = best_at s i in let k = ap (value best) h.0 in omega arith))
-          (λ p.
-          let l = best_at s i in
-          let k = ap (value best) h.0 in
-          let q = given_suc t (value r p.0.at) j p.3 in
+          (let p = best_at s i in
+          let q = offer_some t p.0 (ap (known best) (sym h.0) ∙ p.1) in
+          let l = p.2 in
           let w = at t j in
-          let u = p.3 in
           omega arith)
-          (best_is t.name))
       kind e s t i o j (inr h) =
           subst (λ (x : Edge). offer c r x ≤ value r (target x)) (sym h.1)
-          (let p = occurs_somewhere s.name head o in
-          let a = top_at best held s.name (held_at (spot s.name p.0) p.1) in
-          let l = best_at s i in
-          let q = given_zero t j (zero_there t.name h.0) in
+          (let u = occurs_somewhere s.name head o in
+          let p = best_at s i in
+          let a = top_at best head (spot s.name u.0) p.0 u.1 p.1 in
+          let l = p.2 in
+          let q = offer_none t (none_there t.name h.0) in
           let w = at t j in
           omega arith)
 

@@ -11,12 +11,16 @@ use mathlib.Core.List.Memᴰ.{not-nil as not-in-nil}
 use mathlib.Core.List.Memᴰ.{of_map as from-map}
 use mathlib.Core.List.Memᴰ.{tail as there}
 use mathlib.Core.List.{List, [], ◌∷◌}
-use Prim.Native.Nat.{ℕ, zero, suc, ◌+◌, ◌-◌, ◌*◌, ◌≤◌, ◌<◌}
-use native.Mathlib.Nat.{le_refl, mod-lt, div-lt_iff_lt-mul}
+use Prim.Native.Nat.{ℕ, ◌+◌, ◌≤◌, ◌<◌}
+use native.Mathlib.Nat.{le_refl}
 use native.Mathlib.Omega.{arith}
 use lib.Dec.{ltb}
-use lib.ListN.{length, get_or, drop, take}
-use lib.Seq.{get_or-drop, drop-drop}
+use lib.ListN.{length, get_or, drop, take, length-drop, drop_of_length-le}
+use lib.Seq.{drop-cons}
+use native.Mathlib.Numerals.{add-one}
+use Rattle.std.specs.List.{sum_by}
+use Rattle.std.proofs.lemmas.List.{take-map, drop-map}
+use Rattle.std.proofs.lemmas.List.Sums.{sum_by-cons}
 use Rattle.laws.proofs.Members.{in_take, in_drop}
 use Rattle.model.specs.Order.{◌∈◌}
 use Rattle.model.specs.Graph.{Edge}
@@ -24,8 +28,11 @@ use Rattle.model.specs.Edges.{Spot, fans}
 use Rattle.model.specs.Ranks.{value, sum}
 use Rattle.model.proofs.Raise.{Below, below_refl, below_trans, below_antisym, below_sum, kept, flag_join}
 use Rattle.model.proofs.RankLaws.{Sound, Capped, Closed}
-use Rattle.rounds.specs.Table.{spot_of, spots_in, Pair, table, graph, Codes, Packed}
-use Rattle.rounds.specs.Offers.{rule_round, Ready}
+use Rattle.rounds.specs.declared.packed.Spot as packed
+use Rattle.rounds.specs.declared.packed.Size.{Size}
+use Rattle.rounds.specs.declared.packed.Packed.{Packed}
+use Rattle.rounds.specs.Table.{spot_of, spots_in, Pair, table, pairs, graph}
+use Rattle.rounds.specs.Offers.{rule_round}
 use Rattle.rounds.specs.Sweep.{sweep, Board}
 use Rattle.rounds.proofs.Rounds.{round_below, round_length, round_sound, round_capped, round_closed}
 
@@ -36,26 +43,22 @@ Near ss = (s : Spot) → s ∈ ss → (s.name < 16) × (s.at < 512)
 abbrev pub Placed : List Pair → Type 0
 Placed ps = (p : Pair) → p ∈ ps → Near p.body × Near p.head
 
-pub codes_near : (ks : List ℕ) → Codes ks → Near (spots_in ks)
-codes_near ks fine s m =
-    let h = from-map spot_of ks m in
-    let k = h.0 in
-    let l = fine k h.1 in
-    subst (λ (t : Spot). (t.name < 16) × (t.at < 512)) h.2
-    ((div-lt_iff_lt-mul {k = 512} {x = k} {y = 16} (omega arith)).1 (omega arith), mod-lt k {m = 512} (omega arith))
+pub spots_near : (ss : List packed.Spot) → Near (spots_in ss)
+spots_near ss s m =
+    let h = from-map spot_of ss m in
+    subst (λ (t : Spot). (t.name < 16) × (t.at < 512)) h.2 (h.0.named, h.0.placed)
 
-pub table_placed : (n : ℕ) (counts codes : List ℕ) → Codes codes → Placed (table n counts codes)
+table_placed : (zs : List Size) (ss : List Spot) → Near ss → Placed (table zs ss)
 unfolding table
-table_placed zero counts codes fine p m = absurd (not-in-nil m)
-table_placed (suc n) counts codes fine p m =
+table_placed [] ss near p m = absurd (not-in-nil m)
+table_placed (z ∷ zs) ss near p m =
     ⊎_elim
-    (λ e.
-    subst (λ (q : Pair). Near q.body × Near q.head) (sym e) (
-      codes_near (take (get_or counts 0 0) codes) (λ k i. fine k (in_take (get_or counts 0 0) codes i)),
-      codes_near (take (get_or counts 1 0) (drop (get_or counts 0 0) codes)) (λ k i. fine k (in_drop (get_or counts 0 0) codes (in_take (get_or counts 1 0) (drop (get_or counts 0 0) codes) i))),
-    ))
-    (λ i. table_placed n (drop 2 counts) (drop (get_or counts 0 0 + get_or counts 1 0) codes) (λ k j. fine k (in_drop (get_or counts 0 0 + get_or counts 1 0) codes j)) p i)
+    (λ e. subst (λ (q : Pair). Near q.body × Near q.head) (sym e) (λ s i. near s (in_take z.body ss i), λ s i. near s (in_drop z.body ss (in_take z.head (drop z.body ss) i))))
+    (λ i. table_placed zs (drop z.head (drop z.body ss)) (λ s j. near s (in_drop z.body ss (in_drop z.head (drop z.body ss) j))) p i)
     (cases_cons m)
+
+pub pairs_placed : (rules : Packed) → Placed (pairs rules)
+pairs_placed rules = table_placed rules.sizes.now (spots_in rules.spots.now) (spots_near rules.spots.now)
 
 -- what a sweep keeps
 
@@ -72,22 +75,19 @@ module _ (p : Pair) (ps : List Pair) (placed : Placed (p ∷ ps)) where
   first_body : (s : Spot) → s ∈ p.body → s.name < 16
   first_body s i = ((placed p (here refl)).0 s i).0
 
-  first_head : (s : Spot) → s ∈ p.head → s.name < 16
-  first_head s i = ((placed p (here refl)).1 s i).0
-
   others : Placed ps
   others q i = placed q (there i)
 
 pub sweep_capped : (c : ℕ) (ps : List Pair) (r : List ℕ) → Placed ps → Capped c r → Capped c (sweep c r ps)
 sweep_capped c [] r w h = h
 sweep_capped c (p ∷ ps) r w h =
-    sweep_capped c ps (rule_round c r p.body p.head) (others p ps w) (round_capped c r p.body p.head (first_body p ps w) (first_head p ps w) h)
+    sweep_capped c ps (rule_round c r p.body p.head) (others p ps w) (round_capped c r p.body p.head (first_body p ps w) h)
 
 pub sweep_sound : (g : List Edge) (c : ℕ) (ps : List Pair) (r : List ℕ) → Placed ps → ((e : Edge) → e ∈ graph ps → e ∈ g) → Sound g r → Sound g (sweep c r ps)
 sweep_sound g c [] r w sub s = s
 sweep_sound g c (p ∷ ps) r w sub s =
     sweep_sound g c ps (rule_round c r p.body p.head) (others p ps w) (λ e i. sub e (in_right (fans p.body p.body p.head) i))
-    (round_sound c r p.body p.head (first_body p ps w) (first_head p ps w) g (λ e i. sub e (in_left (graph ps) i)) s)
+    (round_sound c r p.body p.head (first_body p ps w) g (λ e i. sub e (in_left (graph ps) i)) s)
 
 -- a sweep that raises nothing leaves each edge with what it asks
 pub sweep_closed : (c : ℕ) (ps : List Pair) (r : List ℕ) → length r ≡ 512 → Placed ps → Below (sweep c r ps) r → Closed c (graph ps) r
@@ -97,98 +97,79 @@ sweep_closed c (p ∷ ps) r l w b e m =
     let down = below_trans (sweep_below c ps (rule_round c r p.body p.head)) b in
     let same : rule_round c r p.body p.head ≡ r = below_antisym down up in
     let b' : Below (sweep c r ps) r = subst (λ (q : List ℕ). Below (sweep c q ps) r) same b in
-    ⊎_elim (λ i. round_closed c r p.body p.head (first_body p ps w) (first_head p ps w) (λ t j. let k = ((w p (here refl)).1 t j).1 in omega arith) down e i)
+    ⊎_elim (λ i. round_closed c r p.body p.head (first_body p ps w) (λ t j. let k = ((w p (here refl)).1 t j).1 in omega arith) down e i)
     (λ i. sweep_closed c ps r l (others p ps w) b' e i)
     (append_cases (fans p.body p.body p.head) m)
 
 -- the loop over the rules
 
-abbrev pub pair_at : List ℕ → ℕ → ℕ → ℕ → Pair
-pair_at codes at mid end = record { body = spots_in (take (mid - at) (drop at codes)); head = spots_in (take (end - mid) (drop mid codes)) }
-
-table_first : (k : ℕ) (counts codes : List ℕ) (b h : ℕ) → get_or counts 0 0 ≡ b → get_or counts 1 0 ≡ h
-    → table (suc k) counts codes ≡ record { body = spots_in (take b codes); head = spots_in (take h (drop b codes)) } ∷ table k (drop 2 counts) (drop (b + h) codes)
-unfolding table
-table_first k counts codes b h p q =
-    ap₂ (λ (x y : ℕ). record { body = spots_in (take x codes); head = spots_in (take y (drop x codes)) } ∷ table k (drop 2 counts) (drop (x + y) codes)) p q
-
-table_step : (n : ℕ) (counts codes : List ℕ) (at mid end i : ℕ) → i < n → mid ≡ at + get_or counts (2 * i) 0 → end ≡ mid + get_or counts (2 * i + 1) 0
-    → table (n - i) (drop (2 * i) counts) (drop at codes) ≡ pair_at codes at mid end ∷ table (n - (i + 1)) (drop (2 * (i + 1)) counts) (drop end codes)
-table_step n counts codes at mid end i lt em eh =
-    let one : n - i ≡ suc (n - (i + 1)) = omega arith in
-    let zeroth : 2 * i + 0 ≡ 2 * i = omega arith in
-    let b : get_or (drop (2 * i) counts) 0 0 ≡ mid - at = get_or-drop (2 * i) counts 0 0 ∙ ap (λ (k : ℕ). get_or counts k 0) zeroth ∙ omega arith in
-    let h : get_or (drop (2 * i) counts) 1 0 ≡ end - mid = get_or-drop (2 * i) counts 1 0 ∙ omega arith in
-    let to-mid : at + (mid - at) ≡ mid = omega arith in
-    let to_end : at + (mid - at + (end - mid)) ≡ end = omega arith in
-    let on : 2 * i + 2 ≡ 2 * (i + 1) = omega arith in
-    ap (λ (k : ℕ). table k (drop (2 * i) counts) (drop at codes)) one
-    ∙ table_first (n - (i + 1)) (drop (2 * i) counts) (drop at codes) (mid - at) (end - mid) b h
-    ∙ ap₂ (λ (x y : List ℕ). record { body = spots_in (take (mid - at) (drop at codes)); head = spots_in (take (end - mid) x) } ∷ table (n - (i + 1)) y (drop (mid - at + (end - mid)) (drop at codes)))
-    (drop-drop (mid - at) at codes ∙ ap (λ (k : ℕ). drop k codes) to-mid)
-    (drop-drop 2 (2 * i) counts ∙ ap (λ (k : ℕ). drop k counts) on)
-    ∙ ap (λ (x : List ℕ). pair_at codes at mid end ∷ table (n - (i + 1)) (drop (2 * (i + 1)) counts) x)
-    (drop-drop (mid - at + (end - mid)) at codes ∙ ap (λ (k : ℕ). drop k codes) to_end)
+-- how many spots the rules of these sizes have
+abbrev pub spots_of : List Size → ℕ
+spots_of zs = sum_by (λ (z : Size). z.body + z.head) zs
 
 -- what is left to sweep, onto what there is, makes the whole
-pub record Sweeping (c : ℕ) (r₀ : List ℕ) (n : ℕ) (counts codes r : List ℕ) (changed : Bool) (at i : ℕ) : Type 0 where
-  pub at_most : i ≤ n
-  pub place : at ≤ 128 * i
+pub record Sweeping (c : ℕ) (r₀ : List ℕ) (all : List Pair) (left : List Size) (rest : List packed.Spot) (r : List ℕ) (changed : Bool) : Type 0 where
+  pub enough : spots_of left ≤ length rest
   pub long : length r ≡ 512
   pub capped : (v : ℕ) → value r v ≤ c
-  pub rest : sweep c r (table (n - i) (drop (2 * i) counts) (drop at codes)) ≡ sweep c r₀ (table n counts codes)
+  pub same : sweep c r (table left (spots_in rest)) ≡ sweep c r₀ all
   pub flag : changed ≡ ltb (sum r₀) (sum r)
   pub up : sum r₀ ≤ sum r
 
-pub sweeping_start : (c : ℕ) (r : List ℕ) (n : ℕ) (counts codes : List ℕ) → Board c r → Sweeping c r n counts codes r false 0 0
-sweeping_start c r n counts codes b = record {
-  at_most = omega arith;
-  place = omega arith;
-  long = b.long;
-  capped = b.capped;
-  rest = let e : n - 0 ≡ n = omega arith in ap (λ (k : ℕ). sweep c r (table k counts codes)) e;
-  flag = kept (sum r);
-  up = le_refl (sum r);
-}
+pub sweeping_start : (c : ℕ) (r : List ℕ) (rules : Packed) → length r ≡ 512 → Board c r → Sweeping c r (pairs rules) rules.sizes.now rules.spots.now r false
+sweeping_start c r rules l b = record { enough = rules.enough; long = l; capped = b.capped; same = refl; flag = kept (sum r); up = le_refl (sum r) }
 
-module _ (c : ℕ) (r₀ : List ℕ) (n : ℕ) (counts codes r : List ℕ) (changed : Bool) (at i : ℕ) (packed : Packed n counts codes) (inv : Sweeping c r₀ n counts codes r changed at i) where
-  module _ (lt : i < n) (mid end : ℕ) (em : mid ≡ at + get_or counts (2 * i) 0) (eh : end ≡ mid + get_or counts (2 * i + 1) 0) where
-    pub sweeping_step : (m : List ℕ) (now up : Bool) → m ≡ rule_round c r (pair_at codes at mid end).body (pair_at codes at mid end).head → up ≡ ltb (sum r) (sum m) → now ≡ (changed || up)
-        → Sweeping c r₀ n counts codes m now end (i + 1)
-    sweeping_step m now up e f g =
-        let p = pair_at codes at mid end in
-        let near = codes_near (take (mid - at) (drop at codes)) (λ k j. packed.fine k (in_drop at codes (in_take (mid - at) (drop at codes) j))) in
-        let near' = codes_near (take (end - mid) (drop mid codes)) (λ k j. packed.fine k (in_drop mid codes (in_take (end - mid) (drop mid codes) j))) in
-        let b = below_sum (round_below c r p.body p.head) in
-        let s = ap sum e in
-        let u = inv.up in
-        let w = inv.place in
-        let x = packed.each (2 * i) in
-        let y = packed.each (2 * i + 1) in
-        record {
-          at_most = omega arith;
-          place = omega arith;
-          long = ap length e ∙ round_length c r p.body p.head ∙ inv.long;
-          capped = λ v. subst (λ (l : List ℕ). value l v ≤ c) (sym e) (round_capped c r p.body p.head (λ t j. (near t j).0) (λ t j. (near' t j).0) inv.capped v);
-          rest =
-              ap (λ (l : List ℕ). sweep c l (table (n - (i + 1)) (drop (2 * (i + 1)) counts) (drop end codes))) e
-              ∙ ap (λ (l : List Pair). sweep c r l) (sym (table_step n counts codes at mid end i lt em eh))
-              ∙ inv.rest;
-          flag = g ∙ ap₂ ◌||◌ inv.flag f ∙ flag_join (sum r₀) (sum r) (sum m) u (omega arith);
-          up = omega arith;
-        }
+-- the first rule that is left
+table_first : (z : Size) (zs : List Size) (ss : List packed.Spot)
+    → table (z ∷ zs) (spots_in ss) ≡ record { body = spots_in (take z.body ss); head = spots_in (take z.head (drop z.body ss)) } ∷ table zs (spots_in (drop z.head (drop z.body ss)))
+unfolding table
+table_first z zs ss =
+    ap₂ (λ (x y : List Spot). record { body = x; head = take z.head y } ∷ table zs (drop z.head y)) (take-map spot_of z.body ss) (drop-map spot_of z.body ss)
+    ∙ ap₂ (λ (x y : List Spot). record { body = spots_in (take z.body ss); head = x } ∷ table zs y) (take-map spot_of z.head (drop z.body ss)) (drop-map spot_of z.head (drop z.body ss))
 
-    -- what a round asks
-    pub sweeping_ready : c ≤ 512 → Ready (take (mid - at) (drop at codes)) r × Codes (take (end - mid) (drop mid codes))
-    sweeping_ready h = (
+module _ (c : ℕ) (r₀ : List ℕ) (all : List Pair) (rest : List packed.Spot) (r : List ℕ) (changed : Bool) where
+  -- the sizes that are left begin with those of the next rule
+  sweeping_next : (zs : List Size) (i : ℕ) → i < length zs → Sweeping c r₀ all (drop i zs) rest r changed → (z : Size) → Sweeping c r₀ all (get_or zs i z ∷ drop (i + 1) zs) rest r changed
+  sweeping_next zs i lt w z =
+      subst (λ (l : List Size). Sweeping c r₀ all l rest r changed) (drop-cons zs i z lt ∙ ap (λ (k : ℕ). get_or zs i z ∷ drop k zs) (sym (add-one i))) w
+
+  -- what the next rule asks
+  pub sweeping_room : (zs : List Size) (i : ℕ) → i < length zs → Sweeping c r₀ all (drop i zs) rest r changed → (z : Size)
+      → ((get_or zs i z).body ≤ length rest) × ((get_or zs i z).head + (get_or zs i z).body ≤ length rest)
+  sweeping_room zs i lt w z =
+      let n = (sweeping_next zs i lt w z).enough in
+      let k = sum_by-cons (λ (y : Size). y.body + y.head) (get_or zs i z) (drop (i + 1) zs) in
+      (omega arith, omega arith)
+
+  pub sweeping_ready : (left : List Size) → Sweeping c r₀ all left rest r changed → c ≤ 512 → (p : ℕ) → value r p ≤ 512
+  sweeping_ready left w h p = let k = w.capped p in omega arith
+
+  -- the next rule's round
+  pub sweeping_step : (zs : List Size) (i : ℕ) → i < length zs → Sweeping c r₀ all (drop i zs) rest r changed → (z : Size) (body head on : List packed.Spot)
+      → body ≡ take (get_or zs i z).body rest → head ≡ take (get_or zs i z).head (drop (get_or zs i z).body rest) → on ≡ drop (get_or zs i z).head (drop (get_or zs i z).body rest)
+      → (m : List ℕ) (up : Bool) → m ≡ rule_round c r (spots_in body) (spots_in head) → up ≡ ltb (sum r) (sum m) → Sweeping c r₀ all (drop (i + 1) zs) on m (changed || up)
+  sweeping_step zs i lt w z body head on eb eh eo m up e f =
+      let first = get_or zs i z in
+      let others = drop (i + 1) zs in
+      let next = sweeping_next zs i lt w z in
+      let b = below_sum (round_below c r (spots_in body) (spots_in head)) in
+      let s = ap sum e in
+      let u = w.up in
+      let n = next.enough in
+      let k = sum_by-cons (λ (y : Size). y.body + y.head) first others in
+      let long = ap length eo in
       record {
-        fine = λ k j. packed.fine k (in_drop at codes (in_take (mid - at) (drop at codes) j));
-        long = inv.long;
-        small = λ v. let k = inv.capped v in omega arith;
-      },
-      λ k j. packed.fine k (in_drop mid codes (in_take (end - mid) (drop mid codes) j)),
-    )
+        enough = omega (arith, length-drop first.head (drop first.body rest), length-drop first.body rest);
+        long = ap length e ∙ round_length c r (spots_in body) (spots_in head) ∙ w.long;
+        capped = λ v. subst (λ (l : List ℕ). value l v ≤ c) (sym e) (round_capped c r (spots_in body) (spots_in head) (λ t j. (spots_near body t j).0) w.capped v);
+        same =
+            ap₂ (λ (l : List ℕ) (ss : List packed.Spot). sweep c l (table others (spots_in ss))) (e ∙ ap₂ (λ (x y : List packed.Spot). rule_round c r (spots_in x) (spots_in y)) eb eh) eo
+            ∙ ap (sweep c r) (sym (table_first first others rest))
+            ∙ next.same;
+        flag = ap₂ ◌||◌ w.flag f ∙ flag_join (sum r₀) (sum r) (sum m) u (omega arith);
+        up = omega arith;
+      }
 
-  pub sweeping_end : n ≤ i → r ≡ sweep c r₀ (table n counts codes)
+  pub sweeping_end : (zs : List Size) (i : ℕ) → length zs ≤ i → Sweeping c r₀ all (drop i zs) rest r changed → r ≡ sweep c r₀ all
   unfolding table
-  sweeping_end ge = let e : n - i ≡ 0 = omega arith in sym (ap (λ (k : ℕ). sweep c r (table k (drop (2 * i) counts) (drop at codes))) e) ∙ inv.rest
+  sweeping_end zs i h w = ap (λ (l : List Size). sweep c r (table l (spots_in rest))) (sym (drop_of_length-le zs h)) ∙ w.same

@@ -14,7 +14,6 @@ sweep c r (p ∷ ps) = sweep c (rule_round c r p.body p.head) ps
 -- what a sweep asks
 pub record Board (c : ℕ) (r : List ℕ) : Type 0 where
   pub cap : c ≤ 512
-  pub long : length r ≡ 512
   pub capped : (v : ℕ) → value r v ≤ c
 
 -- each number is reached by a path

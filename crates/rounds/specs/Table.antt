@@ -1,41 +1,32 @@
--- Packed rules: a code for each variable and its position, one rule after the other, body before head; and what they mean. Assumes nothing.
-use Rattle.std.specs.Prelude.{ℕ, zero, suc, ◌+◌, ◌/◌, ◌%◌, ◌≤◌, ◌<◌, ◌≡◌, List, [], ◌∷◌, ◌++◌, map, length, get_or, take, drop}
-use Rattle.model.specs.Order.{◌∈◌}
+-- Packed rules: a spot for each variable of a rule, one rule after the other, body before head; and what they mean. Assumes nothing.
+use Rattle.std.specs.Prelude.{List, [], ◌∷◌, ◌++◌, map, take, drop}
 use Rattle.model.specs.Graph.{Edge}
-use Rattle.model.specs.Edges.{Spot, fans}
+use Rattle.model.specs.Edges.{fans}
+use Rattle.model.specs.Edges as paper
+use Rattle.rounds.specs.declared.packed.Spot.{Spot}
+use Rattle.rounds.specs.declared.packed.Size.{Size}
+use Rattle.rounds.specs.declared.packed.Packed.{Packed}
 
--- a variable and its position, from one number
-abbrev pub spot_of : ℕ → Spot
-spot_of k = record { name = k / 512; at = k % 512 }
+abbrev pub spot_of : Spot → paper.Spot
+spot_of s = record { name = s.var; at = s.at }
 
-abbrev pub spots_in : List ℕ → List Spot
-spots_in ks = map spot_of ks
+abbrev pub spots_in : List Spot → List paper.Spot
+spots_in ss = map spot_of ss
 
 -- a rule as the variables with their positions, of its body and of its head
 pub record Pair : Type 0 where
-  pub body : List Spot
-  pub head : List Spot
+  pub body : List paper.Spot
+  pub head : List paper.Spot
 
--- n rules, with so many codes in each body and each head
-unfoldable pub table : ℕ → List ℕ → List ℕ → List Pair
-table zero counts codes = []
-table (suc n) counts codes =
-    record { body = spots_in (take (get_or counts 0 0) codes); head = spots_in (take (get_or counts 1 0) (drop (get_or counts 0 0) codes)) }
-    ∷ table n (drop 2 counts) (drop (get_or counts 0 0 + get_or counts 1 0) codes)
+-- rules of these sizes
+unfoldable pub table : List Size → List paper.Spot → List Pair
+table [] ss = []
+table (z ∷ zs) ss = record { body = take z.body ss; head = take z.head (drop z.body ss) } ∷ table zs (drop z.head (drop z.body ss))
+
+abbrev pub pairs : Packed → List Pair
+pairs rules = table rules.sizes.now (spots_in rules.spots.now)
 
 -- the edges of the rules
 abbrev pub graph : List Pair → List Edge
 graph [] = []
 graph (p ∷ ps) = fans p.body p.body p.head ++ graph ps
-
--- codes of variables below 16 at positions below 512
-abbrev pub Codes : List ℕ → Type 0
-Codes ks = (k : ℕ) → k ∈ ks → k < 8192
-
--- at most 64 rules with at most 64 codes in each body and each head
-pub record Packed (n : ℕ) (counts codes : List ℕ) : Type 0 where
-  pub few : n ≤ 64
-  pub counted : length counts ≡ 128
-  pub long : length codes ≡ 8192
-  pub each : (j : ℕ) → get_or counts j 0 ≤ 64
-  pub fine : Codes codes

@@ -1,7 +1,7 @@
-// The rank words of packed rules, by rounds until nothing changes. Promised is that the words are the paper's of the rules' edges. Assumes packed
-// rules, and 512 words.
+// The rank words of packed rules, by rounds until nothing changes. Promised is that the words are the paper's of the rules' edges. Assumes nothing.
 #![tactic(auto)]
 
+pub mod packed;
 mod round;
 mod settle;
 pub mod words;

@@ -1,66 +1,43 @@
-// Rounds of all rules until nothing changes, with larger and larger numbers for 'no largest'. Assumes packed rules, and 512 ranks.
-ghost use Rattle.std.specs.Prelude.{◌≡◌, true, false, ◌≤◌, ◌<◌, length, ltb};
+// Rounds of all rules until nothing changes, with larger and larger numbers for 'no largest'. Assumes zeros at first.
+ghost use Rattle.std.specs.Prelude.{◌≡◌, true, false, ◌≤◌, ◌<◌, ltb};
 ghost use Rattle.model.specs.Ranks.{sum};
-ghost use Rattle.rounds.specs.Table.{table, graph, Packed};
+ghost use Rattle.rounds.specs.Table.{pairs, graph};
 ghost use Rattle.rounds.specs.Sweep.{sweep, Board, Sound, Settled, Free, Enough};
 
-use crate::round::{either, relaxed};
+use crate::packed::{Packed, Ranks};
+use crate::round::relaxed;
 
-// A round of each of the n rules; whether one changed anything.
-fn swept(codes: &[u16], counts: &[usize], n: usize, cap: u16, r: &mut [u16]) -> bool
-    requires { Packed n counts.now codes.now × Board cap r.old }
-    ensures { (r.new ≡ sweep cap r.old (table n counts.now codes.now)) × (result ≡ ltb (sum r.old) (sum r.new)) }
+// A round of each rule; whether one changed anything.
+fn swept(rules: Packed, cap: u16, r: &mut Ranks) -> bool
+    requires { Board cap r.old }
+    ensures { (r.new ≡ sweep cap r.old (pairs rules.entry)) × (result ≡ ltb (sum r.old) (sum r.new)) }
 {
     let mut changed = false;
-    let mut at: usize = 0;
-    let mut i: usize = 0;
-    while i < n {
-        let mid = at + counts[2 * i];
-        let end = mid + counts[2 * i + 1];
-        let up = relaxed(&codes[at..mid], &codes[mid..end], cap, r);
-        changed = either(changed, up);
-        at = end;
-        i += 1;
+    let mut rest = rules.spots;
+    for size in rules.sizes {
+        let (body, more) = rest.split_at(size.body);
+        let (head, more) = more.split_at(size.head);
+        changed |= relaxed(body, head, cap, r);
+        rest = more;
     }
     changed
 }
 
 // Rounds until nothing changes.
-fn settled(codes: &[u16], counts: &[usize], n: usize, cap: u16, r: &mut [u16])
-    requires { Packed n counts.now codes.now × Board cap r.old × Sound (graph (table n counts.now codes.now)) r.old }
-    ensures { Settled (graph (table n counts.now codes.now)) cap r.new }
+fn settled(rules: Packed, cap: u16, r: &mut Ranks)
+    requires { Board cap r.old × Sound (graph (pairs rules)) r.old }
+    ensures { Settled (graph (pairs rules.entry)) cap r.new }
 {
-    let mut more = true;
-    while more {
-        more = swept(codes, counts, n, cap, r);
-    }
-}
-
-// Whether a position has x.
-fn has(r: &[u16], x: u16) -> bool
-    requires { length r.now ≡ 512 }
-    ensures { result ≡ false → Free r.now x }
-{
-    let mut i = 0;
-    while i < 512 {
-        if r[i] == x {
-            return true;
-        }
-        i += 1;
-    }
-    false
+    while swept(rules, cap, r) {}
 }
 
 // Whether a larger number than c has to be tried.
-fn goes(r: &[u16], c: u16) -> bool
-    requires { (length r.now ≡ 512) × (0 < c) × (c ≤ 512) }
+fn goes(r: &Ranks, c: u16) -> bool
+    requires { (0 < c) × (c ≤ 512) }
     ensures stop { result ≡ false → Enough r.now c }
     ensures go { result ≡ true → c < 512 }
 {
-    if 512 <= c {
-        return false;
-    }
-    has(r, c - 1)
+    c < 512 && r.contains(&(c - 1))
 }
 
 // The number to try after c: half as large again, 2 at first and 512 at last.
@@ -68,26 +45,20 @@ fn larger(c: u16) -> u16
     requires { c < 512 }
     ensures { (c < result) × (result ≤ 512) }
 {
-    if c < 1 {
-        return 2;
-    }
-    if 340 < c {
-        return 512;
-    }
-    c + c / 2 + 1
+    (c + c / 2 + 1).clamp(2, 512)
 }
 
 // Larger and larger numbers, until one can stand for 'no largest': that one.
-pub fn leveled(codes: &[u16], counts: &[usize], n: usize, r: &mut [u16]) -> u16
-    requires { Packed n counts.now codes.now × Board 0 r.old }
-    ensures { Settled (graph (table n counts.now codes.now)) result r.new × Enough r.new result }
+pub fn leveled(rules: Packed, r: &mut Ranks) -> u16
+    requires { Board 0 r.old }
+    ensures { Settled (graph (pairs rules.entry)) result r.new × Enough r.new result }
 {
-    let mut c: u16 = 0;
-    let mut more = true;
-    while more {
+    let mut c = 0;
+    loop {
         c = larger(c);
-        settled(codes, counts, n, c, r);
-        more = goes(r, c);
+        settled(rules, c, r);
+        if !goes(r, c) {
+            return c;
+        }
     }
-    c
 }

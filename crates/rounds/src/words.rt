@@ -1,51 +1,28 @@
-// The rank words of packed rules. Assumes packed rules, and 512 words.
-ghost use Rattle.std.specs.Prelude.{◌≡◌, map, length, replicate};
+// The rank words of packed rules. Assumes nothing.
+ghost use Rattle.std.specs.Prelude.{◌≡◌, map};
 ghost use Rattle.model.specs.Ranks.{rank_words};
-ghost use Rattle.rounds.specs.Table.{table, graph, Packed};
+ghost use Rattle.rounds.specs.Table.{pairs, graph};
 ghost use Rattle.rounds.specs.Sweep.{word_from};
 
+use crate::packed::{Packed, Ranks};
 use crate::settle::leveled;
 
-// Zeros.
-fn cleared(r: &mut [u16])
-    requires { length r.old ≡ 512 }
-    ensures { r.new ≡ replicate 512 0 }
-{
-    let mut i = 0;
-    while i < 512 {
-        r[i] = 0;
-        i += 1;
-    }
-}
-
-// A number as a word: 65,535 if it is c or more.
-fn worded(x: u16, c: u16) -> u16
-    ensures { result ≡ word_from c x }
-{
-    if x < c {
-        return x;
-    }
-    65535
-}
-
-// All numbers as words.
-fn finished(r: &mut [u16], c: u16)
-    requires { length r.old ≡ 512 }
+// All numbers as words: 65,535, which is `ENDLESS` in the ranks crate above, for one that is c or more.
+fn finished(r: &mut Ranks, c: u16)
     ensures { r.new ≡ map (word_from c) r.old }
 {
-    let mut i = 0;
-    while i < 512 {
-        r[i] = worded(r[i], c);
-        i += 1;
+    for x in r.iter_mut() {
+        if c <= *x {
+            *x = 65535;
+        }
     }
 }
 
-// The rank words of the n rules.
-pub fn ranked(codes: &[u16], counts: &[usize], n: usize, r: &mut [u16])
-    requires { Packed n counts.now codes.now × (length r.old ≡ 512) }
-    ensures { r.new ≡ rank_words (graph (table n counts.now codes.now)) }
+// The rank words of the rules.
+pub fn ranked(rules: Packed, r: &mut Ranks)
+    ensures { r.new ≡ rank_words (graph (pairs rules.entry)) }
 {
-    cleared(r);
-    let c = leveled(codes, counts, n, r);
+    r.fill(0);
+    let c = leveled(rules, r);
     finished(r, c);
 }

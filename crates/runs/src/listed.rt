@@ -1,117 +1,88 @@
 // A job's run in storage that is lent eight words longer than it needs and filled with sevens, and its listing, one fact after the other by the
 // line writer.
+ghost use Rattle.std.specs.Prelude.{◌<◌, ◌≤◌, length, IfOk};
+
 use crate::storage;
-use chase::outcome::Ending;
-use engine::answer::RunAnswer;
-use lines::Written;
-use text::listing::Word;
-
-// The first bytes of a line.
-fn put(rt: &impl Print, line: &[u8], n: usize) -> bool {
-    if line.len() < n {
-        return false;
-    }
-    rt.write_all(&line[0..n]).is_ok()
-}
-
-fn word_of(ending: Ending) -> Word {
-    match ending {
-        Ending::Done => Word::Done,
-        Ending::Failed => Word::Failed,
-        Ending::Steps => Word::Steps,
-        Ending::Room => Word::Room,
-    }
-}
-
-fn wide(b: u8) -> usize {
-    b as usize
-}
+use engine::Ran;
+use fields::Refusal;
+use std::io;
+use text::Writer;
 
 // The arity that the job declares for a relation.
 fn arity(job: &[u8], relation: u32) -> usize {
-    let at = relation as usize + 8;
-    if at < job.len() {
-        return wide(job[at]);
-    }
-    0
+    job.get(relation as usize + 8)
+        .map_or(0, |arity| usize::from(*arity))
 }
 
 // The line of the fact in nine words.
-fn fact(rt: &impl Print, nine: &[u32], job: &[u8]) -> bool {
-    if nine.len() < 1 {
-        return false;
-    }
-    let mut line = [0u8; 256];
-    let written = lines::line(nine, arity(job, nine[0]), &mut line);
-    let Written::Wrote(n) = written else {
-        return false;
+fn fact(rt: &impl Print, nine: &[u32], job: &[u8]) -> io::Result<()>
+    requires { 0 < length nine.now }
+{
+    let mut line = [0u8; 128];
+    let Ok(n) = lines::line(nine, arity(job, nine[0]), &mut line) else {
+        return Err(io::ErrorKind::InvalidData.into());
     };
-    put(rt, &line, n)
+    rt.write_all(line.get(..n).ok_or(io::ErrorKind::InvalidData)?)
 }
 
-// The lines of the facts in the words, nine words each.
-fn facts(rt: &impl Print, words: &[u32], job: &[u8]) -> bool {
-    let mut at = 0;
-    while at + 9 <= words.len() {
-        let end = at + 9;
-        if !fact(rt, &words[at..end], job) {
-            return false;
-        }
-        at = end;
-    }
-    true
+// The line of a refused job.
+fn refused(rt: &impl Print, refusal: Refusal) -> io::Result<()> {
+    let mut line = [0u8; 128];
+    let mut w = Writer::new(&mut line);
+    w.refused_line(u64::from(refusal.fault.number()), refusal.place as u64);
+    rt.write_all(w.written())
+}
+
+// The first two lines of a run.
+#[tactic(auto, using(text::proofs::Short::short_lines))]
+fn head(rt: &impl Print, ran: Ran) -> io::Result<()> {
+    let mut lines = [0u8; 256];
+    let mut w = Writer::new(&mut lines);
+    let outcome = ran.outcome;
+    let verdict = ran.verdict;
+    w.first_line(
+        outcome.ending,
+        outcome.steps as u64,
+        outcome.facts as u64,
+        u64::from(outcome.next),
+    );
+    w.second_line(verdict.acyclic, u64::from(verdict.generations));
+    rt.write_all(w.written())
 }
 
 // The listing; how many words the facts take, none where the job was refused.
-fn told(rt: &impl Print, job: &[u8], words: &[u32], answer: RunAnswer) -> usize {
-    let mut line = [0u8; 256];
+fn told(
+    rt: &impl Print,
+    job: &[u8],
+    words: &[u32; 9224],
+    answer: Result<Ran, Refusal>,
+) -> io::Result<usize>
+    ensures { IfOk result (λ used. used ≤ 9216) }
+{
     match answer {
-        RunAnswer::Refused { number, place } => {
-            let n = text::listing::refused_line(&mut line, 0, number as u64, place as u64);
-            put(rt, &line, n);
-            0
+        Ok(ran) => {
+            head(rt, ran)?;
+            let count = ran.outcome.facts;
+            for nine in words[..9216].chunks_exact(9).take(count) {
+                fact(rt, nine, job)?;
+            }
+            Ok(count.min(1024) * 9)
         }
-        RunAnswer::Ran {
-            ending,
-            steps,
-            facts: count,
-            next,
-            acyclic,
-            generations,
-        } => {
-            let word = word_of(ending);
-            let n = text::listing::first_line(
-                &mut line,
-                0,
-                word,
-                steps as u64,
-                count as u64,
-                next as u64,
-            );
-            put(rt, &line, n);
-            let m = text::listing::second_line(&mut line, 0, acyclic, generations as u64);
-            put(rt, &line, m);
-            if 1024 < count {
-                return 0;
-            }
-            let used = count * 9;
-            if words.len() < used {
-                return 0;
-            }
-            facts(rt, &words[0..used], job);
-            used
+        Err(refusal) => {
+            refused(rt, refusal)?;
+            Ok(0)
         }
     }
 }
 
-// The listing of a job, and with it its storage where that is asked for; whether it was written whole.
-pub(crate) fn list(rt: &impl Print, job: &[u8], stored: bool) -> bool {
+// The listing of a job, and with it its storage where that is asked for.
+pub(crate) fn list(rt: &impl Print, job: &[u8], stored: bool) -> io::Result<()> {
     let mut words = [7u32; 9224];
     let mut ranks = [7u16; 520];
     let answer = engine::run(job, &mut words, &mut ranks);
-    let used = told(rt, job, &words, answer);
+    let used = told(rt, job, &words, answer)?;
     if stored {
-        return storage::show(rt, &words, &ranks, used);
+        storage::show(rt, &words, &ranks, used)?;
     }
-    true
+    Ok(())
 }

@@ -8,36 +8,21 @@ mod storage;
 use std::fs::File;
 use std::{env, io};
 
-// Whether the name starts with the word.
-fn starts(name: &[u8], word: &[u8]) -> bool {
-    if name.len() < word.len() {
-        return false;
-    }
-    let mut i = 0;
-    while i < word.len() {
-        if name[i] != word[i] {
-            return false;
-        }
-        i += 1;
-    }
-    true
-}
-
 // Whether the storage is printed too.
-fn stored(name: &[u8]) -> bool {
-    starts(name, b"paper/") || starts(name, b"largest/")
+fn stored(name: &str) -> bool {
+    name.starts_with("paper/") || name.starts_with("largest/")
 }
 
-// The job of that name; whether to go on.
+// The job of that name; whether it was written whole.
 fn run(rt: &HostRuntime, name: &str) -> io::Result<bool> {
     let mut file = File::open(rt, name)?;
     let mut job = [0u8; 65536];
     let k = input::read_full(&mut file, &mut job)?;
-    let named = rt.write_all(name.as_bytes()).is_ok();
-    let ended = rt.write_all(b"\n").is_ok();
-    Ok(named && ended && listed::list(rt, &job[..k], stored(name.as_bytes())))
+    let named = println!(rt; "{name}");
+    Ok(named.is_ok() && listed::list(rt, &job[..k], stored(name)).is_ok())
 }
 
+// Output that can't be written ends the program quietly.
 fn main(rt: HostRuntime) -> io::Result<()> {
     for name in env::args(&rt)?.skip(1) {
         if !run(&rt, name.as_str())? {

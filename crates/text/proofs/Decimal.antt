@@ -7,9 +7,13 @@ use mathlib.Core.Bool.{Bool, true, false}
 use mathlib.Core.Logic.{⊎_elim}
 use mathlib.Core.List.Memᴰ
 use mathlib.Core.List.{List, [], ◌∷◌, ◌++◌, Memᴰ}
-use lib.ListN.{length, length-append, get_or, get_or-append}
+use lib.ListN.{length, length-append, take, drop, get_or, get_or-append}
+use lib.Seq.{drop-length, drop-append-le}
 use lib.Dec.{ltb}
 use borrow.Author.Tests.{lt-ltb, le-ltb, ltb-true, ltb-false}
+use Rattle.std.specs.Fmt as all
+use Rattle.std.proofs.lemmas.Fmt.{decimal_digit, decimal_step}
+use Rattle.std.proofs.lemmas.List.{take_rest}
 use Rattle.model.specs.Lines.{digits, decimal}
 use Rattle.text.specs.Reads.{value_from, value_of}
 
@@ -20,19 +24,6 @@ digits_one n x h = rw (lt-ltb x 10 h, digits)
 pub digits_more : (n x : ℕ) → 10 ≤ x → digits (suc n) x ≡ digits n (x / 10) ++ ((48 + x % 10) ∷ [])
 unfolding digits
 digits_more n x h = rw (le-ltb x 10 h, digits)
-
-pub digits_none : (n x : ℕ) → n ≡ 0 → digits n x ≡ []
-unfolding digits
-digits_none n x e = rw e
-
--- the same where the number of digits is known to be above 0
-pub digits_last : (n x : ℕ) → (n ≡ 0 → ⊥) → x < 10 → digits n x ≡ (48 + x) ∷ []
-digits_last zero x f h = absurd (f refl)
-digits_last (suc n) x f h = digits_one n x h
-
-pub digits_split : (n x : ℕ) → (n ≡ 0 → ⊥) → 10 ≤ x → digits n x ≡ digits (n - 1) (x / 10) ++ ((48 + x % 10) ∷ [])
-digits_split zero x f h = absurd (f refl)
-digits_split (suc n) x f h = let e : suc n - 1 ≡ n = omega arith in rw e (digits_more n x h)
 
 -- what holds of a number below ten, and of a number if it holds of its tenth, holds of every number's digits
 pub by_digits : (P : ℕ → ℕ → List ℕ → Type 0) → ((x : ℕ) → P 0 x []) → ((n x : ℕ) → x < 10 → P (suc n) x ((48 + x) ∷ []))
@@ -134,3 +125,24 @@ decimal_bytes x b m = digits_bytes 10 x b m
 pub decimal_some : (x : ℕ) → x < ten_digits → 0 < length (decimal x)
 unfolding decimal
 decimal_some x h = (digits_lead 10 x (omega arith) h).0
+
+-- they are the last ten of all its digits
+last_digits : (n x : ℕ) → x < 2 ^ 64 → digits n x ≡ drop (length (all.decimal x) - n) (all.decimal x)
+last_digits =
+    by_digits (λ n x ds. x < 2 ^ 64 → ds ≡ drop (length (all.decimal x) - n) (all.decimal x)) (λ x h. let z : length (all.decimal x) - 0 ≡ length (all.decimal x) = omega arith in rw z (sym (drop-length (all.decimal x))))
+    one more
+  where
+    one : (n x : ℕ) → x < 10 → x < 2 ^ 64 → (48 + x) ∷ [] ≡ drop (length (all.decimal x) - suc n) (all.decimal x)
+    one n x h b = let z : 1 - suc n ≡ 0 = omega arith in rw (decimal_digit x h, z)
+
+    more : (n x : ℕ) (ds : List ℕ) → 10 ≤ x → (x / 10 < 2 ^ 64 → ds ≡ drop (length (all.decimal (x / 10)) - n) (all.decimal (x / 10))) → x < 2 ^ 64
+        → ds ++ ((48 + x % 10) ∷ []) ≡ drop (length (all.decimal x) - suc n) (all.decimal x)
+    more n x ds h p b =
+        let m : ℕ = length (all.decimal (x / 10)) in
+        let e : length (all.decimal (x / 10) ++ ((48 + x % 10) ∷ [])) - suc n ≡ m - n = omega (arith, length-append (all.decimal (x / 10)) ((48 + x % 10) ∷ [])) in
+        rw (decimal_step x h b, e, drop-append-le (m - n) (all.decimal (x / 10)) ((48 + x % 10) ∷ []) (omega arith)) (ap (λ l. l ++ ((48 + x % 10) ∷ [])) (p (omega arith)))
+
+-- so is what the text of the whole number has from the place on that lies ten before its end
+pub last_ten : (x k : ℕ) (text : List ℕ) → x < 2 ^ 64 → text ≡ all.decimal x → k ≡ length text - 10 → take (length text - k) (drop k text) ≡ decimal x
+unfolding decimal
+last_ten x k text h e f = take_rest text k ∙ (rw (f, e) (sym (last_digits 10 x h)))

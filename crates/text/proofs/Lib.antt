@@ -2,3 +2,4 @@ pub mod Puts
 pub mod Decimal
 pub mod Short
 pub mod Unique
+pub mod Writes

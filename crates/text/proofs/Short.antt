@@ -8,7 +8,7 @@ use lib.ListN.{length, length-append}
 use Rattle.model.specs.Lines.{lines}
 use Rattle.model.specs.Facts.{Fact}
 use Rattle.model.specs.Chase.{Outcome, done, failed, steps, room}
-use Rattle.model.specs.Answer.{outcome_text, verdict_text, behind, refused_text, ran, listing}
+use Rattle.model.specs.Answer.{outcome_text, verdict_text, refused_text, ran, listing}
 use Rattle.text.specs.Listing.{first_line, second_line}
 use Rattle.text.proofs.Decimal.{decimal_many}
 
@@ -22,8 +22,8 @@ pub verdict_short : (a : Bool) → length (verdict_text a) ≤ 7
 verdict_short true = omega arith
 verdict_short false = omega arith
 
-pub behind_short : (x : ℕ) → length (behind x) ≤ 11
-behind_short x = omega (arith, decimal_many x)
+-- what the pieces of a line take at most
+pub ruleset short = (outcome_short, verdict_short, decimal_many)
 
 -- each of these lines fits 128 bytes
 pub first_line_short : (o : Outcome) (n m k : ℕ) → length (first_line o n m k) ≤ 41
@@ -37,6 +37,8 @@ second_line_short a g = simp length-append (omega (arith, verdict_short a, decim
 
 pub refused_short : (n p : ℕ) → length (refused_text n p) ≤ 33
 refused_short n p = simp length-append (omega (arith, decimal_many n, decimal_many p))
+
+pub ruleset short_lines = (first_line_short, second_line_short)
 
 -- the listing is its first two lines and those of the facts
 pub listing_ran : (o : Outcome) (n m k : ℕ) (a : Bool) (g : ℕ) (fs : List Fact)

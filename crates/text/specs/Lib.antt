@@ -1,3 +1,4 @@
 pub mod Puts
 pub mod Reads
+pub mod Writes
 pub mod Listing

@@ -2,15 +2,6 @@
 use Rattle.std.specs.Prelude.{ℕ, Bool, List, [], ◌∷◌, ◌++◌}
 use Rattle.model.specs.Chase as paper
 use Rattle.model.specs.Answer.{outcome_text, verdict_text, behind}
-use Rattle.text.specs.declared.listing.Word.{Word}
-use Rattle.text.specs.declared.listing.Word.TheVariants.{Done, Failed, Steps, Room}
-
--- the paper's outcome that a word says
-abbrev pub outcome_said : Word → paper.Outcome
-outcome_said Done = paper.done
-outcome_said Failed = paper.failed
-outcome_said Steps = paper.steps
-outcome_said Room = paper.room
 
 -- first line: outcome, steps, facts, next blank
 unfoldable pub first_line : paper.Outcome → ℕ → ℕ → ℕ → List ℕ

@@ -1,64 +1,77 @@
-// Pieces of text, put into a lent buffer one after the other: each takes the place where it starts and gives the one behind it. Promised is that
-// exactly the text's bytes are set. Assumes space for them.
+// Pieces of text, put into a lent buffer one after the other by a writer that keeps the place behind the last one. Promised is that exactly the
+// text's bytes are set. Assumes space for them. The bytes are put by hand, since exactly these are promised, with nothing allocated.
 #![tactic(auto)]
 
 pub mod listing;
 
-ghost use Rattle.std.specs.Prelude.{[], ◌∷◌, ◌<◌, length};
-ghost use Rattle.model.specs.Lines.{digits, decimal};
+ghost use Rattle.std.specs.Prelude.{◌≡◌, [], ◌∷◌, ◌<◌, ◌≤◌, length, take};
+ghost use Rattle.model.specs.Lines.{decimal};
 ghost use Rattle.model.specs.Answer.{behind};
-ghost use Rattle.text.specs.Puts.{Space, Puts};
+ghost use Rattle.text.specs.Puts.{Space};
+ghost use Rattle.text.specs.Writes.{Writes};
 
-// One byte.
-pub fn byte(lent: &mut [u8], at: usize, b: u8) -> usize
-    requires { at < length lent.old }
-    ensures { Puts (b ∷ []) at lent.old result lent.new }
-{
-    lent[at] = b;
-    at + 1
+use itoa::Buffer;
+
+// A lent buffer with the place where the next piece goes: from the start on, so many bytes are put.
+#[derive(Drop)]
+pub struct Writer<'a> {
+    lent: &'a mut [u8],
+    pub at: usize,
 }
 
-// Bytes as they stand.
-fn bytes(lent: &mut [u8], at: usize, text: &[u8]) -> usize
-    requires { Space text.now at lent.old }
-    ensures { Puts text.now at lent.old result lent.new }
-{
-    let mut i = 0;
-    while i < text.len() {
-        lent[at + i] = text[i];
-        i += 1;
+impl<'a> Writer<'a> {
+    // At the buffer's start.
+    pub fn new(lent: &'a mut [u8]) -> Writer<'a>
+        ensures same { result.lent.ghost_name ≡ lent.entry.ghost_name }
+        ensures unchanged { result.lent.now ≡ lent.old }
+        ensures start { result.at ≡ 0 }
+    {
+        Writer { lent, at: 0 }
     }
-    at + i
-}
 
-// The last n digits of a number, without leading zeros.
-fn digits(lent: &mut [u8], at: usize, n: usize, x: u64) -> usize
-    requires { Space (digits n x) at lent.old }
-    ensures { Puts (digits n x) at lent.old result lent.new }
-{
-    if n == 0 {
-        return at;
+    // What is put so far.
+    pub fn written(&self) -> &[u8]
+        requires { self.now.at ≤ length self.now.lent.now }
+        ensures { result.now ≡ take self.now.at self.now.lent.now }
+    {
+        &self.lent[..self.at]
     }
-    if x < 10 {
-        return byte(lent, at, (48 + x) as u8);
+
+    // One byte.
+    pub fn byte(&mut self, b: u8)
+        requires { self.old.at < length self.old.lent.now }
+        ensures { Writes (b ∷ []) self.old self.new }
+    {
+        self.lent[self.at] = b;
+        self.at += 1;
     }
-    let next = digits(&mut *lent, at, n - 1, x / 10);
-    byte(lent, next, (48 + x % 10) as u8)
-}
 
-// A number of at most ten digits.
-pub fn number(lent: &mut [u8], at: usize, x: u64) -> usize
-    requires { Space (decimal x) at lent.old }
-    ensures { Puts (decimal x) at lent.old result lent.new }
-{
-    digits(lent, at, 10, x)
-}
+    // Bytes as they stand.
+    fn bytes(&mut self, text: &[u8])
+        requires { Space text.now self.old.at self.old.lent.now }
+        ensures { Writes text.now self.old self.new }
+    {
+        let end = self.at + text.len();
+        self.lent[self.at..end].copy_from_slice(text);
+        self.at = end;
+    }
 
-// A number behind a space.
-fn behind(lent: &mut [u8], at: usize, x: u64) -> usize
-    requires { Space (behind x) at lent.old }
-    ensures { Puts (behind x) at lent.old result lent.new }
-{
-    let next = byte(&mut *lent, at, b' ');
-    number(lent, next, x)
+    // A number of at most ten digits: those in front of the last ten are left out.
+    pub fn number(&mut self, x: u64)
+        requires { Space (decimal x) self.old.at self.old.lent.now }
+        ensures { Writes (decimal x) self.old self.new }
+    {
+        let mut buffer = Buffer::new();
+        let all = buffer.format(x).as_bytes();
+        self.bytes(&all[all.len().saturating_sub(10)..]);
+    }
+
+    // A number behind a space.
+    fn behind(&mut self, x: u64)
+        requires { Space (behind x) self.old.at self.old.lent.now }
+        ensures { Writes (behind x) self.old self.new }
+    {
+        self.byte(b' ');
+        self.number(x);
+    }
 }

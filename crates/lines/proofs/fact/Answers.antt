@@ -1,29 +1,27 @@
 -- `lines::fact` meets its contract. Assumes nothing.
 use native.Mathlib.Omega.{arith}
-use mathlib.Core.List.{[], ◌∷◌, ◌++◌}
-use Rattle.text.proofs.Puts.{space_first, space_second, puts_append}
-use Rattle.model.specs.Lines.{decimal, values_text}
+use lib.ListN.{length-append}
+use Rattle.text.proofs.Writes.{writes_append}
 use Rattle.lines.proofs.Text.{line_pieces}
 use Rattle.lines.proofs.fact.Goals as goal
 
-pub number-a-requires : goal.number-a-requires
-number-a-requires c =
+pub number-requires : goal.number-requires
+number-requires c =
     let v = c.args.vs.now in
-    space_first (decimal c.args.relation) (values_text v ++ (0x0a ∷ [])) c.args.lent.now c.args.at (rw (← line_pieces c.args.relation v) c.requires)
+    rw c.from.ensures
+    (omega (arith, rw (line_pieces c.args.relation v, length-append) at c.requires))
 
-pub values-b-requires : goal.values-b-requires
-values-b-requires c =
+pub values-requires : goal.values-requires
+values-requires c =
     let v = c.args.vs.now in
-    space_first (values_text v) (0x0a ∷ []) c.number-a.new.lent c.number-a.result
-    (space_second (decimal c.args.relation) (values_text v ++ (0x0a ∷ [])) c.args.lent.now c.args.at (rw (← line_pieces c.args.relation v) c.requires) _ _ c.number-a.ensures)
+    omega (arith, rw c.from.ensures at c.number.ensures.puts.place, rw (line_pieces c.args.relation v, length-append, length-append) at c.requires)
 
 pub byte-requires : goal.byte-requires
 byte-requires c =
     let v = c.args.vs.now in
-    let m = space_second (decimal c.args.relation) (values_text v ++ (0x0a ∷ [])) c.args.lent.now c.args.at (rw (← line_pieces c.args.relation v) c.requires) _ _ c.number-a.ensures in
-    omega (arith, space_second (values_text v) (0x0a ∷ []) _ _ m _ _ c.values-b.ensures)
+    omega (arith, rw c.from.ensures at c.number.ensures.puts.place, rw (line_pieces c.args.relation v, length-append, length-append) at c.requires)
 
 pub returns : goal.returns
 returns c =
     rw (line_pieces c.args.relation c.args.vs.now)
-    (puts_append c.number-a.ensures (puts_append c.values-b.ensures c.byte.ensures))
+    (writes_append (rw c.from.ensures at c.number.ensures) (writes_append c.values.ensures c.byte.ensures))

@@ -1,10 +1,9 @@
--- `lines::facts` meets its contract. Assumes nothing.
-use Prim.Native.Nat.{◌-◌}
-use Rattle.lines.proofs.Rows.{Lined}
+-- `lines::facts` meets its contract: so many of the lines are written. Assumes nothing.
+use Rattle.model.specs.Words.{facts_of}
+use Rattle.model.specs.Lines.{lines}
+use Rattle.text.specs.Writes.{Writes}
+use Rattle.lines.specs.Rows.{arity_in}
 use Rattle.lines.proofs.facts.Given as goal
 
-abbrev pub invariant-loop-i : goal.invariant-loop-i
-invariant-loop-i l = Lined l.words l.arities l.initial.lent l.n l.at l.i l.next l.lent
-
-abbrev pub decreases-loop-i : goal.decreases-loop-i
-decreases-loop-i l = l.n - l.i
+abbrev pub invariant-loop-nine : goal.invariant-loop-nine
+invariant-loop-nine l = Writes (lines (facts_of (arity_in l.arities) l.nine-index l.words)) l.initial.w l.w

@@ -2,24 +2,24 @@
 use native.Mathlib.Omega.{arith}
 use mathlib.Core.Path.{ap}
 use lib.ListN.{length}
-use Rattle.text.proofs.Puts.{puts_length, puts_append}
+use Rattle.text.proofs.Writes.{writes_append}
 use Rattle.lines.proofs.Text.{value_constant, value_blank}
 use Rattle.lines.proofs.value.Goals as goal
 
 pub number-requires : goal.number-requires
-number-requires c =
-    rw (← value_constant c.args.v c.if-v-lt2147483648.true) c.requires
+number-requires c = rw (c.from.ensures, ← value_constant c.args.v c.if-v-lt2147483648.true) c.requires
 
 pub returns-then-v-lt2147483648 : goal.returns-then-v-lt2147483648
-returns-then-v-lt2147483648 c = rw (value_constant c.args.v c.if-v-lt2147483648.true) c.number.ensures
+returns-then-v-lt2147483648 c = rw (value_constant c.args.v c.if-v-lt2147483648.true) (rw c.from.ensures at c.number.ensures)
 
-pub byte-next-requires : goal.byte-next-requires
-byte-next-requires c = omega (arith, c.requires, ap length (value_blank c.args.v c.if-v-lt2147483648.false))
+pub byte-requires : goal.byte-requires
+byte-requires c = omega (arith, c.requires, ap length (value_blank c.args.v c.if-v-lt2147483648.false))
 
-pub number-requires-2 : goal.number-requires-2
-number-requires-2 c =
-    let p = c.byte-next.ensures in
-    omega (arith, c.requires, ap length (value_blank c.args.v c.if-v-lt2147483648.false), p.place, puts_length p)
+pub number-requires-else-v-lt2147483648 : goal.number-requires-else-v-lt2147483648
+number-requires-else-v-lt2147483648 c =
+    rw c.from-else-v-lt2147483648.ensures (omega (arith, c.requires, ap length (value_blank c.args.v c.if-v-lt2147483648.false)))
 
-pub returns : goal.returns
-returns c = rw (value_blank c.args.v c.if-v-lt2147483648.false) (puts_append c.byte-next.ensures c.number-2.ensures)
+pub returns-else-v-lt2147483648 : goal.returns-else-v-lt2147483648
+returns-else-v-lt2147483648 c =
+    rw (value_blank c.args.v c.if-v-lt2147483648.false)
+    (writes_append c.byte.ensures (rw c.from-else-v-lt2147483648.ensures at c.number-else-v-lt2147483648.ensures))

@@ -1,11 +1,8 @@
--- `lines::values` meets its contract. Assumes nothing.
-use Prim.Native.Nat.{◌-◌}
-use lib.ListN.{length}
-use Rattle.lines.proofs.Text.{Passed}
+-- `lines::values` meets its contract: so many of the values are written. Assumes nothing.
+use lib.ListN.{take}
+use Rattle.model.specs.Lines.{values_text}
+use Rattle.text.specs.Writes.{Writes}
 use Rattle.lines.proofs.values.Given as goal
 
-abbrev pub invariant-loop-i : goal.invariant-loop-i
-invariant-loop-i l = Passed l.vs l.at l.initial.lent l.i l.next l.lent
-
-abbrev pub decreases-loop-i : goal.decreases-loop-i
-decreases-loop-i l = length l.vs - l.i
+abbrev pub invariant-loop-v : goal.invariant-loop-v
+invariant-loop-v l = Writes (values_text (take l.v-index l.vs)) l.initial.w l.w

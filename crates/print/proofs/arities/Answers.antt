@@ -1,24 +1,19 @@
+-- `print::arities` meets its contract. Assumes nothing.
+use Prim.Native.Nat.{ℕ, ◌+◌, ◌-◌, ◌≤◌}
 use native.Mathlib.Omega.{arith}
-use mathlib.Core.Path.{◌≡◌, refl, sym, ap, ◌∙◌}
-use lib.ListN.{take, drop}
-use Rattle.model.specs.Words.{padded}
-use Rattle.print.proofs.Laws.{padded_none, table_more}
+use mathlib.Core.Path.{◌≡◌, sym, ap, ◌∙◌}
+use mathlib.Core.List.{List, ◌++◌}
+use lib.ListN.{length, length-drop, take, drop, replicate}
+use lib.Seq.{length-take-le}
+use Rattle.print.proofs.Laws.{padded_copy}
 use Rattle.print.proofs.arities.Goals as goal
-
-pub loop-i-init : goal.loop-i-init
-loop-i-init c = record { within = omega arith; sized = refl; holds = sym (padded_none 64) }
-
-pub loop-i-smaller : goal.loop-i-smaller
-loop-i-smaller c = omega arith
-
-pub loop-i-preserved : goal.loop-i-preserved
-loop-i-preserved c =
-    let l = c.loop-i in
-    let j = c.args.job.now in
-    table_more j c.args.n l.i (omega arith) c.requires l.invariant
 
 pub returns : goal.returns
 returns c =
-    let l = c.loop-i in
-    let e : l.i ≡ c.args.n = omega arith in
-    l.invariant.holds ∙ ap (λ k. padded 64 (take k (drop 8 c.args.job.now))) e
+    let n : ℕ = c.args.n in
+    let declared : List ℕ = drop 8 c.args.job.now in
+    let e : 8 + n - 8 ≡ n = omega arith in
+    let k : n ≤ length declared = rw length-drop (omega arith) in
+    let l : length (take n declared) ≡ n = length-take-le n declared k in
+    rw (c.copy_from_slice.ensures.after, e)
+    (ap (λ i. take n declared ++ drop i (replicate 64 0)) (sym l) ∙ padded_copy 64 (take n declared) (omega arith))

@@ -1,17 +1,20 @@
 -- `fields::Cursor::byte` meets its contract. Assumes nothing.
 use mathlib.Core.Path.{ap, ◌∙◌}
 use native.Mathlib.Omega.{arith}
-use Prim.Native.Nat.{◌+◌}
+use lib.ListN.{get_or}
+use Rattle.std.proofs.lemmas.Result.{err_from_is_err_and}
 use Rattle.model.specs.Job.{got, byte_at, read_byte}
-use Rattle.fields.proofs.Laws.{field_in, field_out}
+use Rattle.fields.proofs.Laws.{field_got, field_missing, first_byte}
 use Rattle.fields.proofs.Cursor.byte.Goals as goal
 
-pub returns-then-at-s : goal.returns-then-at-s
+pub returns-in_err-byte : goal.returns-in_err-byte
 unfolding read_byte
-returns-then-at-s c =
-    let a = c.args in
-    c.new.ensures ∙ (ap (λ v. got v (a.self.at + 1)) c.byte_of.ensures ∙ field_in 1 byte_at a.s.now a.self.at (omega arith))
+returns-in_err-byte c =
+    let p = err_from_is_err_and c.from_residual.result c.from_residual.ensures.1 in
+    rw (p.1, p.2) (field_missing 1 byte_at c.args.s.now c.args.self.at _ _ c.in_err-byte.ensures)
 
-pub returns-else-at-s : goal.returns-else-at-s
+pub returns : goal.returns
 unfolding read_byte
-returns-else-at-s c = let a = c.args in c.fault.ensures ∙ field_out 1 byte_at a.s.now a.self.at (omega arith)
+returns c =
+    ap (λ v. got v c.in_ok-byte.next.at) c.from.ensures
+    ∙ field_got 1 byte_at c.args.s.now c.args.self.at (λ b. get_or b 0 0) _ _ (first_byte 1 c.args.s.now c.args.self.at (omega arith)) c.in_ok-byte.ensures

@@ -6,4 +6,4 @@ use Rattle.fields.proofs.Cursor.count.Goals as goal
 
 pub returns : goal.returns
 unfolding read_count within
-returns c = c.within.ensures ∙ ap (within _ _ _) c.byte-byte.ensures
+returns c = c.within.ensures ∙ ap (within _ _ _) c.byte.ensures

@@ -1,62 +1,36 @@
 -- `fields::Cursor::mark` meets its contract. Assumes nothing.
-use mathlib.Core.Path.{◌∙◌}
-use native.Mathlib.Omega.{arith}
-use Prim.Native.Nat.{◌+◌, ◌<◌, ◌≤◌}
-use lib.ListN.{length}
-use borrow.Author.Tests.{le-leb, lt-leb, eq-eqb, ne_eqb}
+use mathlib.Core.Path.{sym, subst, ◌≡◌, ◌∙◌}
+use mathlib.Core.Bool.{true, false}
+use mathlib.Core.List.{[], ◌∷◌}
+use lib.Dec.{eqb}
+use lib.ListN.{take, drop}
+use lib.Pointwise.{pointwise}
+use borrow.Author.Tests.{le-leb}
+use Rattle.std.proofs.lemmas.Result.{err_from_is_err_and}
 use Rattle.model.specs.Job.{read_mark}
-use Rattle.fields.proofs.Laws.{kept, lost, picked, passed}
+use Rattle.fields.proofs.Laws.{handed, kept, field_missing, field_inv, three, right, wrong}
 use Rattle.fields.proofs.Cursor.mark.Goals as goal
 
-pub returns-then-s-lt3 : goal.returns-then-s-lt3
+pub returns-in_err-mark : goal.returns-in_err-mark
 unfolding read_mark
-returns-then-s-lt3 c =
-    let a = c.args in
-    let l : length a.s.now < a.self.at + 3 = omega arith in
-    c.fault.ensures ∙ lost _ _ _ _ _ (lt-leb _ _ l)
+returns-in_err-mark c =
+    let p = err_from_is_err_and c.from_residual.result c.from_residual.ensures.1 in
+    rw (p.1, p.2) (handed _ _ _ _ (field_missing 3 (λ b q. tt {0}) c.args.s.now c.args.self.at _ _ c.in_err-mark.ensures))
 
-pub returns-then-s-at : goal.returns-then-s-at
+pub returns-then-eq : goal.returns-then-eq
 unfolding read_mark
-returns-then-s-at c =
-    let a = c.args in
-    let l : length a.s.now < a.self.at + 3 = omega arith in
-    c.fault-then-s-at.ensures ∙ lost _ _ _ _ _ (lt-leb _ _ l)
+returns-then-eq c =
+    let s = c.args.s.now in
+    let at = c.args.self.at in
+    let i = field_inv 3 (λ bs q. take 3 (drop q bs)) s at c.in_ok-mark.mark c.in_ok-mark.next.at c.in_ok-mark.ensures in
+    let h = subst (λ x. pointwise eqb x (67 ∷ 72 ∷ 83 ∷ []) ≡ true) (i.1 ∙ three s at i.0) (sym c.eq.ensures ∙ c.if-eq.true) in
+    rw i.2 (right at _ _ _ _ h ∙ kept _ _ _ _ _ (le-leb _ _ i.0))
 
-pub returns-then-s-at-2 : goal.returns-then-s-at-2
+pub returns-else-eq : goal.returns-else-eq
 unfolding read_mark
-returns-then-s-at-2 c =
-    let a = c.args in
-    let l : a.self.at + 3 ≤ length a.s.now = omega arith in
-    c.fault-then-s-at-2.ensures ∙ (lost _ _ _ _ _ (ne_eqb _ _ c.if-s-at-2.true) ∙ kept _ _ _ _ _ (le-leb _ _ l))
-
-pub returns-then-s-at-3 : goal.returns-then-s-at-3
-unfolding read_mark
-returns-then-s-at-3 c =
-    let a = c.args in
-    let l : a.self.at + 3 ≤ length a.s.now = omega arith in
-    c.fault-then-s-at-3.ensures
-    ∙ (lost _ _ _ _ _ (ne_eqb _ _ c.if-s-at-3.true)
-    ∙ (kept _ _ _ _ _ (eq-eqb _ _ c.if-s-at-2.false)
-    ∙ kept _ _ _ _ _ (le-leb _ _ l)))
-
-pub returns-then-s-at-4 : goal.returns-then-s-at-4
-unfolding read_mark
-returns-then-s-at-4 c =
-    let a = c.args in
-    let l : a.self.at + 3 ≤ length a.s.now = omega arith in
-    c.fault-then-s-at-4.ensures
-    ∙ (passed _ _ _ (ne_eqb _ _ c.if-s-at-4.true)
-    ∙ (kept _ _ _ _ _ (eq-eqb _ _ c.if-s-at-3.false)
-    ∙ (kept _ _ _ _ _ (eq-eqb _ _ c.if-s-at-2.false)
-    ∙ kept _ _ _ _ _ (le-leb _ _ l))))
-
-pub returns : goal.returns
-unfolding read_mark
-returns c =
-    let a = c.args in
-    let l : a.self.at + 3 ≤ length a.s.now = omega arith in
-    c.new.ensures
-    ∙ (picked _ _ _ (eq-eqb _ _ c.if-s-at-4.false)
-    ∙ (kept _ _ _ _ _ (eq-eqb _ _ c.if-s-at-3.false)
-    ∙ (kept _ _ _ _ _ (eq-eqb _ _ c.if-s-at-2.false)
-    ∙ kept _ _ _ _ _ (le-leb _ _ l))))
+returns-else-eq c =
+    let s = c.args.s.now in
+    let at = c.args.self.at in
+    let i = field_inv 3 (λ bs q. take 3 (drop q bs)) s at c.in_ok-mark.mark c.in_ok-mark.next.at c.in_ok-mark.ensures in
+    let h = subst (λ x. pointwise eqb x (67 ∷ 72 ∷ 83 ∷ []) ≡ false) (i.1 ∙ three s at i.0) (sym c.eq.ensures ∙ c.if-eq.false) in
+    rw c.refuse.ensures (wrong at _ _ _ _ h ∙ kept _ _ _ _ _ (le-leb _ _ i.0))

@@ -6,4 +6,4 @@ use Rattle.fields.proofs.Cursor.number.Goals as goal
 
 pub returns : goal.returns
 unfolding read_number
-returns c = c.within.ensures ∙ from_zero _ _ _ _ c.half-half.ensures
+returns c = c.within.ensures ∙ from_zero _ _ _ _ c.half.ensures

@@ -6,4 +6,4 @@ use Rattle.fields.proofs.Cursor.up_to.Goals as goal
 
 pub returns : goal.returns
 unfolding read_up_to
-returns c = c.within.ensures ∙ from_zero _ _ _ _ c.word-word.ensures
+returns c = c.within.ensures ∙ from_zero _ _ _ _ c.word.ensures

@@ -1,18 +1,17 @@
-use borrow.Author.Rules.{rules}
-use native.Mathlib.Omega.{arith}
-use Rattle.ranks.proofs.Readings.{largest_step, largest_end}
+-- `ranks::reading::deepest` meets its contract. Assumes nothing.
+use Rattle.std.proofs.Common.{◌≡◌, ℕ, rules, tests, ltb, max, unwrap_or, sym, ap, ◌∙◌}
+use Rattle.std.specs.List.{filter, reduce}
+use Rattle.std.proofs.lemmas.Iterator.{YieldsList-from_slice}
+use Rattle.std.proofs.lemmas.Iterator.Adapters.{option_map_id}
+use Rattle.std.proofs.lemmas.Iterator.Consumers.{YieldsList-from_copied, YieldsList-from_filter, max_from_yields_List}
+use Rattle.ranks.proofs.Readings.{largest_filtered}
 use Rattle.ranks.proofs.reading.deepest.Goals as goal
-
-pub loop-i-init : goal.loop-i-init
-loop-i-init c =
-    (search rules, omega arith)
-
-pub loop-i-preserved : goal.loop-i-preserved
-loop-i-preserved c =
-    let loop = c.loop-i in
-    (search rules, largest_step 65535 c.args.r.now loop.i loop.m c.larger-m.result _ (omega (arith, c.requires)) c.larger-m.ensures loop.invariant.1)
 
 pub returns : goal.returns
 returns c =
-    let loop = c.loop-i in
-    largest_end 65535 c.args.r.now loop.i loop.m _ (omega (arith, c.requires, c.loop-i-test.false)) loop.invariant.1
+    let below = λ (x : ℕ). ltb x 65535 in
+    let most : c.max.result ≡ reduce max (filter below c.args.r.now) =
+    sym (option_map_id _)
+    ∙ max_from_yields_List c.filter.result _ c.max.ensures.ran
+    (YieldsList-from_filter _ below (YieldsList-from_copied (YieldsList-from_slice c.args.r.now cc)) (cc) (λ x b q k. search (rules, tests))) in
+    c.unwrap_or.ensures ∙ ap (λ o. unwrap_or o 0) most ∙ largest_filtered 65535 c.args.r.now

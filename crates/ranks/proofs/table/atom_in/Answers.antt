@@ -1,42 +1,37 @@
-use borrow.Author.Rules.{rules}
-use Rattle.rules.specs.Rules.{kind_of, no_term}
+-- `ranks::table::atom_in` meets its contract. Assumes nothing.
+use mathlib.Core.Path.{◌≡◌}
 use native.Mathlib.Omega.{arith}
 use Prim.Native.Nat.{◌*◌, ◌+◌}
 use lib.ListN.{get_or}
-use Rattle.ranks.specs.Codes.{atom_codes}
-use Rattle.ranks.proofs.Packing.{filling_step, filling_end, term_few, atom_turn, atom_over}
+use Rattle.rules.specs.Rules.{term_of, no_term}
+use Rattle.ranks.proofs.Packing.{grown, append_turn, append_end, term_few, atom_turn, atom_over, terms_few, term_good}
 use Rattle.ranks.proofs.table.atom_in.Goals as goal
 
-pub bounds-rule-a-in-loop-p : goal.bounds-rule-a-in-loop-p
-bounds-rule-a-in-loop-p c =
-    omega (arith, c.requires.1.lens c.args.a c.requires.0)
+pub loop-p-init : goal.loop-p-init
+loop-p-init c =
+    let q : 8 * c.from-first.result + 0 ≡ 8 * c.from-first.result = omega arith in (
+      omega arith,
+      rw (q, c.from-first.ensures, c.terms_of-term-items.ensures),
+    )
 
-pub term_in-end-requires : goal.term_in-end-requires
-term_in-end-requires c =
-    let loop = c.loop-p in (
-      omega (arith, c.requires.1.lens c.args.a c.requires.0, loop.invariant.3.long),
-      c.requires.1.vars (c.args.a * 8 + loop.p) (omega (arith, c.requires.1.lens c.args.a c.requires.0)),
-      omega (arith, c.requires.1.lens c.args.a c.requires.0, c.requires.1.rels c.args.a c.requires.0),
+pub term_in-requires : goal.term_in-requires
+term_in-requires c =
+    let good = c.requires.1 in
+    let few = terms_few c.args.rule.now good c.args.a c.requires.0 _ c.terms_of-term-items.ensures in
+    let lt = c.loop-p-test.true in (
+      omega (arith, c.loop-p.invariant.0, c.requires.2),
+      term_good c.args.rule.now good c.args.a c.requires.0 _ c.terms_of-term-items.ensures c.loop-p.p lt,
+      omega (arith, c.from-first.ensures, good.rels c.args.a c.requires.0),
     )
 
 pub loop-p-preserved : goal.loop-p-preserved
 loop-p-preserved c =
     let loop = c.loop-p in
-    let term = c.term_in-end in
-    let rule = c.args.rule in (
-      search rules,
-      omega arith,
-      omega (arith, term.ensures.end, term_few loop.q (kind_of (get_or rule.terms (c.args.a * 8 + loop.p) no_term).kind)),
-      filling_step c.args.codes.now loop.codes c.args.used loop.end _ (atom_codes rule c.args.a) loop.invariant.3 _ _ _ _
-          (atom_turn rule c.requires.1 c.args.a c.requires.0 loop.p loop.q c.loop-p-test.true) term.ensures,
+    let ts = c.terms_of-term-items.result.now in
+    let first = 8 * c.from-first.result in (
+      omega (arith, grown loop.all.items c.term_in.new.all.items _ c.term_in.ensures, term_few (first + loop.p) (term_of (get_or ts loop.p no_term))),
+      append_turn _ _ _ _ _ _ c.term_in.ensures (atom_turn ts loop.p first c.loop-p-test.true) loop.invariant.1,
     )
 
-pub shape_of-codes : goal.shape_of-codes
-shape_of-codes c =
-    c.loop-p.invariant.3.long
-
 pub returns : goal.returns
-returns c =
-    let loop = c.loop-p in
-    filling_end c.args.codes.now loop.codes c.args.used loop.end _ (atom_codes c.args.rule c.args.a) loop.invariant.3
-    (atom_over c.args.rule c.requires.1 c.args.a c.requires.0 loop.p loop.q c.loop-p-test.false)
+returns c = append_end _ _ _ (atom_over _ c.loop-p.p _ c.loop-p-test.false) c.loop-p.invariant.1

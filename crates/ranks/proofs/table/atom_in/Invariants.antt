@@ -1,18 +1,16 @@
 -- `ranks::table::atom_in` meets its contract. Assumes nothing.
-use Rattle.rules.specs.Rules.{term_of, terms_at}
 use mathlib.Core.Path.{◌≡◌}
-use mathlib.Core.List.{map}
-use Prim.Native.Nat.{◌≤◌, ◌*◌, ◌+◌, ◌-◌}
-use lib.ListN.{get_or, drop}
+use mathlib.Core.List.{map, ◌++◌}
+use Prim.Native.Nat.{◌≤◌, ◌+◌}
+use lib.ListN.{drop}
+use Rattle.arrayvec.specs.ArrayVec.{array_vec_len}
 use Rattle.model.specs.Edges.{spots_from}
-use Rattle.ranks.specs.Codes.{code_of, atom_codes}
-use Rattle.ranks.proofs.Packing.{Filling}
+use Rattle.rules.specs.Rules.{term_of}
+use Rattle.rounds.specs.Table.{spots_in}
+use Rattle.ranks.specs.Packs.{atom_spots}
 use Rattle.ranks.proofs.table.atom_in.Given as goal
 
 abbrev pub invariant-loop-p : goal.invariant-loop-p
 invariant-loop-p l =
-    (l.p ≤ get_or l.rule.lens l.a 0) × (l.q ≡ 8 * get_or l.rule.rels l.a 0 + l.p) × (l.end ≤ l.used + l.p) × Filling l.initial.codes l.codes l.used l.end (map code_of (spots_from l.q (map term_of (drop l.p (terms_at l.rule l.a))))) (atom_codes l.rule l.a)
-
-abbrev pub decreases-loop-p : goal.decreases-loop-p
-decreases-loop-p l =
-    l.size - l.p
+    (array_vec_len l.all ≤ array_vec_len l.initial.all + l.p)
+    × (spots_in l.all.items ++ spots_from (l.first + l.p) (map term_of (drop l.p l.term-items)) ≡ spots_in l.initial.all.items ++ atom_spots l.rule l.a)

@@ -1,42 +1,29 @@
-use borrow.Author.Rules.{rules}
-use mathlib.Core.List.{List, map}
-use Prim.Native.Nat.{ℕ, ◌+◌}
-use mathlib.Core.Path.{subst, sym}
+-- `ranks::table::atoms_in` meets its contract. Assumes nothing.
+use mathlib.Core.Path.{ap}
+use mathlib.Core.List.{◌++◌}
 use native.Mathlib.Omega.{arith}
-use Rattle.model.specs.Edges.{spots}
-use Rattle.rules.specs.Rules.{atoms}
-use Rattle.ranks.specs.Codes.{code_of}
-use Rattle.ranks.proofs.Packing.{Filling, filling_start, filling_step, filling_end, atoms_turn, atoms_over, atoms_start, atom_few}
+use Prim.Native.Nat.{◌+◌}
+use Rattle.rounds.specs.Table.{spots_in}
+use Rattle.ranks.proofs.Packing.{grown, append_turn, append_end, atoms_start, atoms_turn, atoms_over, atom_few}
 use Rattle.ranks.proofs.table.atoms_in.Goals as goal
 
-pub loop-i-init : goal.loop-i-init
-loop-i-init c = (
-  omega arith,
-  omega arith,
-  subst (λ (l : List ℕ). Filling c.args.codes.now c.args.codes.now c.args.used c.args.used l (map code_of (spots (atoms c.args.rule c.args.a c.args.k))))
-      (sym (atoms_start c.args.rule c.args.a c.args.k)) (filling_start c.args.codes.now c.args.used _),
-)
+pub loop-place-init : goal.loop-place-init
+loop-place-init c = (omega arith, ap (λ l. spots_in c.args.all.now.items ++ l) (atoms_start c.args.rule.now c.args.a c.args.k))
 
-pub atom_in-end-requires : goal.atom_in-end-requires
-atom_in-end-requires c =
-    (omega arith, c.requires.1, omega (arith, c.loop-i.invariant.2.long))
+pub atom_in-requires : goal.atom_in-requires
+atom_in-requires c =
+    (omega (arith, c.requires.0, c.loop-place-test.true), c.requires.1, omega (arith, c.requires.2, c.loop-place.invariant.0, c.loop-place.auto.place, c.loop-place-test.true))
 
-pub loop-i-preserved : goal.loop-i-preserved
-loop-i-preserved c =
-    let loop = c.loop-i in
-    let atom = c.atom_in-end in (
-      search rules,
-      omega (arith, atom.ensures.end, atom_few c.args.rule c.requires.1 (c.args.a + loop.i) (omega arith)),
-      filling_step c.args.codes.now loop.codes c.args.used loop.end _ (map code_of (spots (atoms c.args.rule c.args.a c.args.k))) loop.invariant.2 _ _ _ _
-          (atoms_turn c.args.rule c.args.a c.args.k loop.i c.loop-i-test.true) atom.ensures,
+pub loop-place-preserved : goal.loop-place-preserved
+loop-place-preserved c =
+    let loop = c.loop-place in
+    let atom = c.atom_in.ensures in
+    let rule = c.args.rule.now in (
+      omega (arith, grown loop.all.items c.atom_in.new.all.items _ atom, atom_few rule c.requires.1 loop.place (omega arith)),
+      append_turn _ _ _ _ _ _ atom (atoms_turn rule (c.args.a + c.args.k) loop.place c.loop-place-test.true) loop.invariant.1,
     )
-
-pub shape_of-codes : goal.shape_of-codes
-shape_of-codes c =
-    c.loop-i.invariant.2.long
 
 pub returns : goal.returns
 returns c =
-    let loop = c.loop-i in
-    filling_end c.args.codes.now loop.codes c.args.used loop.end _ (map code_of (spots (atoms c.args.rule c.args.a c.args.k))) loop.invariant.2
-    (atoms_over c.args.rule c.args.a c.args.k loop.i c.loop-i-test.false)
+    let loop = c.loop-place in
+    append_end _ _ _ (atoms_over c.args.rule.now (c.args.a + c.args.k) loop.place c.loop-place-test.false) loop.invariant.1

@@ -1,26 +1,12 @@
-use Rattle.rounds.proofs.Turns.{code_at, pouring_start, pouring_step, pouring_end}
-use native.Mathlib.Omega.{arith}
+-- `rounds::round::poured` meets its contract. Assumes nothing.
+use Rattle.rounds.specs.Offers.{given}
+use Rattle.rounds.specs.Table.{spots_in}
+use Rattle.rounds.proofs.Turns.{spots_left, pouring_step}
 use Rattle.rounds.proofs.round.poured.Goals as goal
 
-pub loop-i-init : goal.loop-i-init
-loop-i-init c =
-    pouring_start _ _ _ c.requires.long
-
-pub bounds-o-c : goal.bounds-o-c
-bounds-o-c c =
-    omega (arith, code_at c.args.codes.now c.requires.fine c.loop-i.i)
-
-pub raise_at-up-requires : goal.raise_at-up-requires
-raise_at-up-requires c =
-    omega (arith, c.loop-i.invariant.long)
-
-pub loop-i-preserved : goal.loop-i-preserved
-loop-i-preserved c =
-    let loop = c.loop-i in
-    pouring_step c.args.o c.args.r.now c.args.codes.now loop.r loop.changed loop.i loop.invariant c.loop-i-test.true _ _ _
-    c.raise_at-up.ensures.0 c.raise_at-up.ensures.1 c.either-changed.ensures
-
-pub returns : goal.returns
-returns c =
-    let loop = c.loop-i in
-    (pouring_end c.args.o c.args.r.now c.args.codes.now loop.r loop.changed loop.i loop.invariant c.loop-i-test.false, loop.invariant.flag)
+pub loop-s-preserved : goal.loop-s-preserved
+loop-s-preserved c =
+    let loop = c.loop-s in
+    let raised = c.raise_at-changed in
+    let left = spots_left c.args.head.now loop.s-index c.s-item.result c.loop-s-test.true in
+    pouring_step (given c.args.best.now c.args.t) c.args.r.now (spots_in c.args.head.now) loop.r loop.changed _ _ _ loop.invariant left raised.new.r raised.result (cc) raised.ensures.1

@@ -1,38 +1,40 @@
+-- `rounds::settle::swept` meets its contract. Assumes nothing.
 use native.Mathlib.Omega.{arith}
-use mathlib.Core.Path.{refl, sym, ◌∙◌}
-use Rattle.rounds.proofs.Sweeps.{sweeping_start, sweeping_step, sweeping_ready, sweeping_end}
+use mathlib.Core.Path.{ap, ◌∙◌}
+use lib.ListN.{take, drop}
+use Rattle.rounds.specs.Table.{pairs}
+use Rattle.rounds.proofs.Sweeps.{sweeping_start, sweeping_room, sweeping_ready, sweeping_step, sweeping_end}
 use Rattle.rounds.proofs.settle.swept.Goals as goal
 
-pub loop-i-init : goal.loop-i-init
-loop-i-init c =
-    sweeping_start c.args.cap c.args.r.now c.args.n c.args.counts.now c.args.codes.now c.requires.1
+pub loop-size-init : goal.loop-size-init
+loop-size-init c =
+    sweeping_start c.args.cap c.args.r.now c.args.rules c.told-r c.requires
 
-pub bounds-counts-i : goal.bounds-counts-i
-bounds-counts-i c =
-    omega (arith, c.requires.0.few, c.requires.0.counted)
+pub split_at-requires : goal.split_at-requires
+split_at-requires c =
+    let loop = c.loop-size in
+    (sweeping_room c.args.cap c.args.r.now (pairs c.args.rules) loop.rest.now loop.r loop.changed c.args.rules.sizes.now loop.size-index c.loop-size-test.true loop.invariant _).0
 
-pub bounds-counts-i-in-loop-i : goal.bounds-counts-i-in-loop-i
-bounds-counts-i-in-loop-i c =
-    omega (arith, c.requires.0.few, c.requires.0.counted)
+pub split_at-requires-in-loop-size : goal.split_at-requires-in-loop-size
+split_at-requires-in-loop-size c =
+    let loop = c.loop-size in
+    let room = sweeping_room c.args.cap c.args.r.now (pairs c.args.rules) loop.rest.now loop.r loop.changed c.args.rules.sizes.now loop.size-index c.loop-size-test.true loop.invariant (record { body = 0; head = 0 }) in
+    omega (arith, c.split_at.ensures.back_len)
 
-pub relaxed-up-requires : goal.relaxed-up-requires
-relaxed-up-requires c =
-    let loop = c.loop-i in
-    sweeping_ready c.args.cap c.args.r.now c.args.n c.args.counts.now c.args.codes.now loop.r loop.changed loop.at loop.i c.requires.0 loop.invariant
-    c.loop-i-test.true _ _ refl refl c.requires.1.cap
+pub relaxed-changed-requires : goal.relaxed-changed-requires
+relaxed-changed-requires c =
+    let loop = c.loop-size in
+    sweeping_ready c.args.cap c.args.r.now (pairs c.args.rules) loop.rest.now loop.r loop.changed _ loop.invariant c.requires.cap
 
-pub loop-i-preserved : goal.loop-i-preserved
-loop-i-preserved c =
-    let loop = c.loop-i in
-    let relaxed = c.relaxed-up in
-    sweeping_step c.args.cap c.args.r.now c.args.n c.args.counts.now c.args.codes.now loop.r loop.changed loop.at loop.i c.requires.0 loop.invariant
-    c.loop-i-test.true _ _ refl refl relaxed.new.r c.either-changed.result relaxed.result relaxed.ensures.0 relaxed.ensures.1 c.either-changed.ensures
-
-pub shape_of-r : goal.shape_of-r
-shape_of-r c =
-    c.loop-i.invariant.long ∙ sym c.requires.1.long
+pub loop-size-preserved : goal.loop-size-preserved
+loop-size-preserved c =
+    let loop = c.loop-size in
+    let relaxed = c.relaxed-changed in
+    let head = c.split_at-in-loop-size.ensures in
+    sweeping_step c.args.cap c.args.r.now (pairs c.args.rules) loop.rest.now loop.r loop.changed c.args.rules.sizes.now loop.size-index c.loop-size-test.true loop.invariant _ _ _ _
+    c.split_at.ensures.front (head.front ∙ ap (take _) c.split_at.ensures.back) (head.back ∙ ap (drop _) c.split_at.ensures.back) _ _ relaxed.ensures.0 relaxed.ensures.1
 
 pub returns : goal.returns
 returns c =
-    let loop = c.loop-i in
-    (sweeping_end c.args.cap c.args.r.now c.args.n c.args.counts.now c.args.codes.now loop.r loop.changed loop.at loop.i c.requires.0 loop.invariant c.loop-i-test.false, loop.invariant.flag)
+    let loop = c.loop-size in
+    (sweeping_end c.args.cap c.args.r.now (pairs c.args.rules) loop.rest.now loop.r loop.changed c.args.rules.sizes.now loop.size-index c.loop-size-test.false loop.invariant, loop.invariant.flag)

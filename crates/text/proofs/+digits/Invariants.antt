@@ -1,5 +1,0 @@
--- The number of digits falls with each call.
-use Rattle.text.proofs.+digits.Given as goal
-
-abbrev pub decreases-digits : goal.decreases-digits
-decreases-digits l = l.n
