@@ -1,4 +1,5 @@
 // Answers as numbers.
+// `as` stands where the library has no lossless `From`; that the number fits is proved.
 ghost use Rattle.std.specs.Prelude.{◌≡◌};
 ghost use Rattle.chase.specs.Turned.{outcome_of};
 ghost use Rattle.engine.specs.Answers.{run_answer_of, verdict_answer_of};

@@ -1,5 +1,6 @@
 // The engine and the line writer as C and Rust call them: a slice crosses as a pointer and a length, a lent array as a pointer. Promised is what
-// `embed` promises; nothing is asked of a caller but that its pointers and lengths are true.
+// `embed` promises; nothing is asked of a caller but that its pointers and lengths are true. A crate of its own, since `embed` is a library that
+// Rattle links.
 #![tactic(auto)]
 
 ghost use Rattle.embed.specs.Told.{RunTold, VerdictTold, LineTold};

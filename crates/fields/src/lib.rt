@@ -144,7 +144,7 @@ impl Cursor {
         Ok((u32::from(byte), next))
     }
 
-    // A field of two bytes, little-endian.
+    // A field of two bytes, little-endian. What the widths share is `bytes`; how a number is made of them differs.
     fn half(self, s: &[u8]) -> Read<u32>
         ensures { of_read (λ x. x) result ≡ read_half s.now self.at }
     {
@@ -167,7 +167,7 @@ impl Cursor {
         within(self.byte(s), low, high, self.at)
     }
 
-    // A number of two bytes, up to high.
+    // A number of two bytes, up to high. Each kind of number of the paper is a reader of its own; what they share is `within`.
     pub fn number(self, s: &[u8], high: u32) -> Read<u32>
         ensures { of_read (λ x. x) result ≡ read_number high s.now self.at }
     {

@@ -1,5 +1,6 @@
 // The line writer: a fact's words as a line of text in a lent buffer, refused by number and place, and the lines of many facts at once. Promised
 // is that exactly the lines' bytes are set.
+// `as` stands where the library has no lossless `From`; that the number fits is proved.
 #![tactic(auto)]
 
 ghost use Rattle.std.specs.Prelude.{◌+◌, ◌*◌, ◌≤◌, length};

@@ -1,5 +1,6 @@
 // The listing of a job as bytes: the run's answer, its first two lines and a line for each fact, or the refusal alone. Promised is that exactly
 // the paper's listing is set. Assumes 102,400 lent bytes, which are always enough.
+// `as` stands where the library has no lossless `From`; that the number fits is proved.
 #![tactic(auto)]
 
 ghost use Rattle.std.specs.Prelude.{◌≡◌, ◌++◌, ◌+◌, ◌≤◌, length, take, drop};

@@ -13,7 +13,8 @@ use rounds::packed::Packed;
 use rules::Rule;
 use table::{Sizes, Spots};
 
-// The rank of a position: a number of special edges, or 65,535 if there is no largest.
+// The rank of a position: a number of special edges, or 65,535 if there is no largest. A number and not an Option, since the lent ranks are read so
+// through C.
 #[derive(Clone, Copy, PartialEq, Eq, Debug)]
 pub struct Rank {
     pub word: u16,

@@ -1,4 +1,5 @@
 // The rules packed as spots and sizes, one rule after the other, body before head. Assumes good rules.
+// `as` stands where the library has no lossless `From`; that the number fits is proved.
 ghost use Rattle.std.specs.Prelude.{◌≡◌, [], ◌∷◌, ◌++◌, ◌+◌, ◌*◌, ◌≤◌, ◌<◌};
 ghost use Rattle.arrayvec.specs.ArrayVec.{array_vec_len};
 ghost use Rattle.rules.specs.Rules.{kind_of, atoms, rules_of, Good, GoodKind, GoodRules};

@@ -14,6 +14,7 @@ pub struct Spot {
     pub ghost placed: { at < 512 },
 }
 
+// Written out, since a struct with a ghost field has no derived default.
 impl Default for Spot {
     ghost is_default = { λ s. (s.var ≡ 0) × (s.at ≡ 0) };
 

@@ -28,6 +28,7 @@ fn settled(rules: Packed, cap: u16, r: &mut Ranks)
     requires { Board cap r.old × Sound (graph (pairs rules)) r.old }
     ensures { Settled (graph (pairs rules.entry)) cap r.new }
 {
+    // A sweep that changes nothing ends it: there is no range to walk.
     while swept(rules, cap, r) {}
 }
 
@@ -54,6 +55,7 @@ pub fn leveled(rules: Packed, r: &mut Ranks) -> u16
     ensures { Settled (graph (pairs rules.entry)) result r.new × Enough r.new result }
 {
     let mut c = 0;
+    // The number that will do ends it: there is no range to walk.
     loop {
         c = larger(c);
         settled(rules, c, r);

@@ -1,5 +1,6 @@
 // A job's run in storage that is lent eight words longer than it needs and filled with sevens, and its listing, one fact after the other by the
-// line writer.
+// line writer. It is put together here and not by `print`, so that the line writer is tried fact by fact.
+// `as` stands where the library has no lossless `From`; that the number fits is proved.
 ghost use Rattle.std.specs.Prelude.{◌<◌, ◌≤◌, length, IfOk};
 
 use crate::storage;
