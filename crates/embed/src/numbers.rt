@@ -38,7 +38,7 @@ pub fn of_run(answer: Result<Ran, Refusal>) -> [u64; 7]
             u64::from(verdict.generations),
         ],
         Err(refusal) => [
-            u64::from(refusal.fault.number()),
+            u64::from(refusal.number),
             refusal.place as u64,
             0,
             0,
@@ -60,7 +60,7 @@ pub fn of_verdict(answer: Result<Verdict, Refusal>) -> [u64; 3]
                 generations,
             },
         ) => [0, u64::from(acyclic), u64::from(generations)],
-        Err(refusal) => [u64::from(refusal.fault.number()), refusal.place as u64, 0],
+        Err(refusal) => [u64::from(refusal.number), refusal.place as u64, 0],
     }
 }
 
@@ -70,6 +70,6 @@ pub fn of_line(answer: Result<usize, Refusal>) -> [u64; 2]
 {
     match answer {
         Ok(count) => [0, count as u64],
-        Err(Refusal { fault, place }) => [u64::from(fault.number()), place as u64],
+        Err(Refusal { number, place }) => [u64::from(number), place as u64],
     }
 }

@@ -10,7 +10,7 @@ use Rattle.arrayvec.specs.ArrayVec.{ArrayVec}
 use Rattle.model.specs.Job.{got, refused, Reader, times}
 use Rattle.fields.specs.declared.Cursor.{Cursor}
 use Rattle.fields.specs.declared.Refusal.{Refusal}
-use Rattle.fields.specs.Means.{number_of, of_read}
+use Rattle.fields.specs.Means.{of_read}
 use Rattle.fields.specs.InTurn.{ReadInTurn, TimesRead}
 use Rattle.fields.proofs.Laws.{goes, handed}
 
@@ -38,7 +38,7 @@ module _ {A : Type 0} (R : Cursor → Result (A × Cursor) Refusal → Type 0) w
         goes _ _ _ _ (all_read e xs d h) ∙ goes _ _ _ _ (means c (Ok (x, e)) k)
 
     pub next_refused : (c : Cursor) (xs : List A) (d : Cursor) (e : Refusal) (n : ℕ) → length xs < n → ReadInTurn R c xs d → R d (Err e) →
-        refused (number_of e.fault) e.place ≡ times n r bs c.at
+        refused e.number e.place ≡ times n r bs c.at
     unfolding times
     next_refused c xs d e zero l h k = absurd (omega arith)
     next_refused c [] d e (suc n) l h k =

@@ -14,7 +14,7 @@ use Rattle.model.specs.Job.{Got, got, refused, Reader, after, pick, times, field
 use Rattle.std.specs.Prelude.{Result, Err}
 use Rattle.fields.specs.declared.Cursor.{Cursor}
 use Rattle.fields.specs.declared.Refusal.{Refusal}
-use Rattle.fields.specs.Means.{number_of, of_read, within, held}
+use Rattle.fields.specs.Means.{of_read, within, held}
 
 -- ---- a value is no refusal
 pub never : {A : Type 0} (x : A) (p n q : ℕ) → got x p ≡ refused n q → ⊥
@@ -119,7 +119,7 @@ module _ {A B : Type 0} (g : Got A) (k : A → ℕ → Got B) where
 
 -- the refusal that an answer holds
 pub short : {A B : Type 0} (f : A → B) (r : Result (A × Cursor) Refusal) (e : Refusal) (g : Got B) → r ≡ Err e → of_read f r ≡ g →
-    refused (number_of e.fault) e.place ≡ g
+    refused e.number e.place ≡ g
 short f r e g d h = ap (of_read f) (sym d) ∙ h
 
 pub fails : {A B : Type 0} (g : Got A) (n p : ℕ) (k : A → ℕ → Got B) → g ≡ refused n p → refused n p ≡ after g k

@@ -46,12 +46,15 @@ back Rest = refl
 pub fault_one : (f g : Fault) → number_of f ≡ number_of g → f ≡ g
 fault_one f g e = sym (back f) ∙ (ap fault_of e ∙ back g)
 
-pub refusal_same : {A : Type 0} (x y : Refusal) → ◌≡◌ {A = Got A} (refused (number_of x.fault) x.place) (refused (number_of y.fault) y.place) → x ≡ y
+-- two refusals with one number and one place are one
+pub same_refusal : (x y : Refusal) → x.number ≡ y.number → x.place ≡ y.place → x ≡ y
+same_refusal x y p q = λ i. record { number = p i; place = q i }
+
+pub refusal_same : {A : Type 0} (x y : Refusal) → ◌≡◌ {A = Got A} (refused x.number x.place) (refused y.number y.place) → x ≡ y
 refusal_same x y e =
-    let n : number_of x.fault ≡ number_of y.fault = cc in
-    let p = fault_one x.fault y.fault n in
+    let p : x.number ≡ y.number = cc in
     let q : x.place ≡ y.place = cc in
-    λ i. record { fault = p i; place = q i }
+    same_refusal x y p q
 
 -- `Cursor::byte`, `count`, `number`, `up_to`, and every other answer with a value that f tells apart
 pub read_one : {A B : Type 0} (f : A → B) (inj : (x y : A) → f x ≡ f y → x ≡ y) (g : Got B) (r s : Result (A × Cursor) Refusal) →
@@ -62,8 +65,8 @@ read_one f inj g (Ok (x, c)) (Ok (y, d)) e e' =
     let p : x ≡ y = inj x y v in
     let q : c.at ≡ d.at = cc h in
     λ i. Ok (p i, record { at = q i })
-read_one f inj g (Ok (x, c)) (Err y) e e' = absurd (never (f x) c.at (number_of y.fault) y.place (e ∙ sym e'))
-read_one f inj g (Err x) (Ok (y, d)) e e' = absurd (never (f y) d.at (number_of x.fault) x.place (e' ∙ sym e))
+read_one f inj g (Ok (x, c)) (Err y) e e' = absurd (never (f x) c.at y.number y.place (e ∙ sym e'))
+read_one f inj g (Err x) (Ok (y, d)) e e' = absurd (never (f y) d.at x.number x.place (e' ∙ sym e))
 read_one f inj g (Err x) (Err y) e e' = ap Err (refusal_same x y (e ∙ sym e'))
 
 -- `Cursor::mark`, `version`, `end`, and every other step
@@ -72,12 +75,12 @@ step_one g (Ok c) (Ok d) a b e e' =
     let h : got a c.at ≡ got b d.at = e ∙ sym e' in
     let q : c.at ≡ d.at = cc h in
     λ i. Ok (record { at = q i })
-step_one g (Ok c) (Err y) a b e e' = absurd (never a c.at (number_of y.fault) y.place (e ∙ sym e'))
-step_one g (Err x) (Ok d) a b e e' = absurd (never b d.at (number_of x.fault) x.place (e' ∙ sym e))
+step_one g (Ok c) (Err y) a b e e' = absurd (never a c.at y.number y.place (e ∙ sym e'))
+step_one g (Err x) (Ok d) a b e e' = absurd (never b d.at x.number x.place (e' ∙ sym e))
 step_one g (Err x) (Err y) a b e e' = ap Err (refusal_same x y (e ∙ sym e'))
 
 ok_err : {A : Type 0} (x : A × Cursor) (e : Refusal) → ◌≡◌ {A = Result (A × Cursor) Refusal} (Ok x) (Err e) → ⊥
-ok_err x e h = never 0 x.1.at (number_of e.fault) e.place (ap (λ r. of_read {B = ℕ} (λ y. 0) r) h)
+ok_err x e h = never 0 x.1.at e.number e.place (ap (λ r. of_read {B = ℕ} (λ y. 0) r) h)
 
 -- `times`, where a call leaves one answer
 module _ {A : Type 0} (R : Cursor → Result (A × Cursor) Refusal → Type 0) (one : (c : Cursor) (x y : Result (A × Cursor) Refusal) → R c x → R c y → x ≡ y) where

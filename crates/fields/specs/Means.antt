@@ -20,17 +20,17 @@ number_of Side = 9
 number_of Rest = 10
 
 abbrev pub refused_at : Fault → ℕ → Refusal
-refused_at f p = record { fault = f; place = p }
+refused_at f p = record { number = number_of f; place = p }
 
 -- what was read, as f says it, with the next place; or the refusal
 abbrev pub of_read : {A B : Type 0} → (A → B) → Result (A × Cursor) Refusal → Got B
 of_read f (Ok x) = got (f x.0) x.1.at
-of_read f (Err r) = refused (number_of r.fault) r.place
+of_read f (Err r) = refused r.number r.place
 
 -- what stands beside a step, with the next place; or the refusal
 abbrev pub of_step : {A : Type 0} → Result Cursor Refusal → A → Got A
 of_step (Ok c) a = got a c.at
-of_step (Err r) a = refused (number_of r.fault) r.place
+of_step (Err r) a = refused r.number r.place
 
 -- a number that was read, where it is from lo to hi: refusal 6 at its start otherwise
 unfoldable pub within : ℕ → ℕ → ℕ → Got ℕ → Got ℕ

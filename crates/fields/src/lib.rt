@@ -31,10 +31,10 @@ pub enum Fault {
     Rest,
 }
 
-// A fault and its place.
+// The number of a refusal and its place. Whoever makes one may give any number, so it is a number here; `Fault` names those of the paper.
 #[derive(Clone, Copy, Debug, PartialEq, Eq)]
 pub struct Refusal {
-    pub fault: Fault,
+    pub number: u8,
     pub place: usize,
 }
 
@@ -65,10 +65,10 @@ impl Fault {
 }
 
 impl Refusal {
-    pub fn new(fault: Fault, place: usize) -> Self
-        ensures { result ≡ record { fault = fault; place = place } }
+    pub fn new(number: u8, place: usize) -> Self
+        ensures { result ≡ record { number = number; place = place } }
     {
-        Refusal { fault, place }
+        Refusal { number, place }
     }
 }
 
@@ -76,7 +76,7 @@ impl Refusal {
 pub fn refuse<T>(fault: Fault, place: usize) -> Result<T, Refusal>
     ensures { result ≡ Err (refused_at fault place) }
 {
-    Err(Refusal::new(fault, place))
+    Err(Refusal::new(fault.number(), place))
 }
 
 // A number that was read, from low to high; refusal 6 at its start otherwise.

@@ -4,17 +4,15 @@ use mathlib.Core.Path.{◌≡◌, sym, ap, ◌∙◌}
 use mathlib.Core.List.{List}
 use Rattle.std.specs.Prelude.{Result, Ok, Err}
 use Rattle.fields.specs.declared.Refusal.{Refusal}
-use Rattle.fields.specs.Means.{number_of}
-use Rattle.fields.proofs.Unique.{fault_one}
+use Rattle.fields.proofs.Unique.{same_refusal}
 use Rattle.lines.specs.Line.{of_written, LineContract}
 
 -- two answers that mean the same are the same
 pub same_written : (r s : Result ℕ Refusal) → of_written r ≡ of_written s → r ≡ s
 same_written (Err x) (Err y) e =
-    let n : number_of x.fault ≡ number_of y.fault = cc in
-    let p = fault_one x.fault y.fault n in
+    let p : x.number ≡ y.number = cc in
     let q : x.place ≡ y.place = cc in
-    λ i. Err (record { fault = p i; place = q i })
+    ap Err (same_refusal x y p q)
 same_written (Ok n) (Ok m) e = let p : n ≡ m = cc in ap Ok p
 same_written (Err x) (Ok m) e = cc
 same_written (Ok n) (Err y) e = cc

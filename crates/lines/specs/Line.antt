@@ -2,11 +2,10 @@
 use Rattle.std.specs.Prelude.{ℕ, ◌≡◌, List, Result, Ok, Err}
 use Rattle.model.specs.Answer as paper
 use Rattle.fields.specs.declared.Refusal.{Refusal}
-use Rattle.fields.specs.Means.{number_of}
 
 -- the paper's refusal, or the count of the bytes set
 abbrev pub of_written : Result ℕ Refusal → paper.Written
-of_written (Err r) = paper.Written.refusal (number_of r.fault) r.place
+of_written (Err r) = paper.Written.refusal r.number r.place
 of_written (Ok n) = paper.wrote n
 
 -- nine words, an arity and a lent line leave one answer and one content of the line

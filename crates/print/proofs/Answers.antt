@@ -21,7 +21,6 @@ use Rattle.text.specs.Listing.{first_line, second_line}
 use Rattle.chase.specs.Turned.{outcome_of}
 use Rattle.std.specs.Prelude.{Result, Ok, Err}
 use Rattle.fields.specs.declared.Refusal.{Refusal}
-use Rattle.fields.specs.Means.{number_of}
 use Rattle.engine.specs.declared.Ran.{Ran}
 use Rattle.engine.specs.Answers.{run_answer_of}
 use Rattle.engine.specs.Demands as demands
@@ -155,9 +154,9 @@ module _ (bs words ranks : List ℕ) (few : length words ≡ paper.instance_word
       (c.leaves_words ∙ (ap (paper.words_after words) (same_job ∙ l.from) ∙ words_left l.job l.place words few))
 
   pub refused_printed : {words' ranks' : List ℕ} {r : Result Ran Refusal} → demands.Ran bs words ranks (run_answer_of r) words' ranks' → (x : Refusal) → r ≡ Err x
-      → paper.listing_of bs ≡ paper.refused_text (number_of x.fault) x.place
+      → paper.listing_of bs ≡ paper.refused_text x.number x.place
   unfolding paper.listing_of
-  refused_printed c x e = refused_listing (judged false bs) (number_of x.fault) x.place (ap run_answer_of (sym e) ∙ (c.answers ∙ ap paper.run_answer same_job))
+  refused_printed c x e = refused_listing (judged false bs) x.number x.place (ap run_answer_of (sym e) ∙ (c.answers ∙ ap paper.run_answer same_job))
 
 -- a text that was put and fits is a count of the buffer's bytes
 pub counted : {text lent left : List ℕ} {r : ℕ} → Puts text 0 lent r left → length text ≤ 102400 → 102400 ≤ length lent → IsPrefixLen r left

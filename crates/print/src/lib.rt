@@ -63,7 +63,7 @@ pub fn print(job: &[u8], out: &mut [u8]) -> usize
             w.at
         }
         Err(refusal) => {
-            let number = u64::from(refusal.fault.number());
+            let number = u64::from(refusal.number);
             let place = refusal.place as u64;
             w.refused_line(number, place);
             w.at

@@ -1,6 +1,6 @@
 -- Rules packed as spots and sizes, turn by turn; and what these then make: the rules' edges. Assumes good rules.
-use mathlib.Core.Path.{◌≡◌, refl, sym, ap, ap₂, ◌∙◌}
-use mathlib.Core.List.{List, [], ◌∷◌, ◌++◌, map, append_assoc, append-nil}
+use mathlib.Core.Path.{◌≡◌, refl, sym, ap, ap₂, ◌∙◌, subst}
+use mathlib.Core.List.{List, [], ◌∷◌, ◌++◌, map, map-append, append_assoc, append-nil}
 use Prim.Native.Nat.{ℕ, zero, suc, ◌+◌, ◌-◌, ◌*◌, ◌≤◌, ◌<◌}
 use native.Mathlib.Nat.{le_refl}
 use native.Mathlib.Numerals.{add-one}
@@ -11,11 +11,13 @@ use Rattle.std.specs.List.{sum_by}
 use Rattle.std.proofs.lemmas.List.Sums.{sum_by-cons}
 use Rattle.model.specs.Rules as paper
 use Rattle.model.specs.Edges.{Spot, spots_from, spots, fans, rule_edges, edges}
+use Rattle.rules.specs.declared.Kind.{Kind}
+use Rattle.rules.specs.declared.Kind.TheVariants.{Var, Const}
 use Rattle.rules.specs.declared.Term.{Term}
 use Rattle.rules.specs.declared.Rule.{Rule}
 use Rattle.rules.specs.declared.Conclusion.{Conclusion}
 use Rattle.rules.specs.declared.Conclusion.TheVariants.{Head, Sides}
-use Rattle.rules.specs.Rules.{term_of, shape_at, terms_at, atoms, concluded, rule_of, rules_of, no_term, lost_rule, GoodKind, GoodConclusion, Good, GoodRules}
+use Rattle.rules.specs.Rules.{kind_of, term_of, shape_at, terms_at, atoms, concluded, rule_of, rules_of, no_term, lost_rule, GoodKind, GoodConclusion, Good, GoodRules}
 use Rattle.rules.proofs.Atoms.{terms_length}
 use Rattle.rounds.specs.declared.packed.Spot as packed
 use Rattle.rounds.specs.declared.packed.Size.{Size}
@@ -37,6 +39,18 @@ module _ {A : Type 0} where
 
   pub append_end : (now left all : List A) → left ≡ [] → now ++ left ≡ all → now ≡ all
   append_end now left all e w = sym (append-nil now) ∙ ap (λ (m : List A). now ++ m) (sym e) ∙ w
+
+-- the spot of a term
+pub var_small : (k : Kind) (x : ℕ) → k ≡ Var x → GoodKind k → x < 16
+var_small k x e g = subst GoodKind e g
+
+pub var_stored : (now now' : List packed.Spot) (q : ℕ) (k : Kind) (x : ℕ) (s : packed.Spot) → k ≡ Var x → spot_of s ≡ record { name = x; at = q } → now' ≡ now ++ (s ∷ [])
+    → spots_in now' ≡ spots_in now ++ spots_from q (kind_of k ∷ [])
+var_stored now now' q k x s e p n =
+    ap spots_in n ∙ map-append spot_of now (s ∷ []) ∙ ap (λ (u : Spot). spots_in now ++ (u ∷ [])) p ∙ ap (λ (j : Kind). spots_in now ++ spots_from q (kind_of j ∷ [])) (sym e)
+
+pub con_stored : (now : List packed.Spot) (q : ℕ) (k : Kind) (x : ℕ) → k ≡ Const x → spots_in now ≡ spots_in now ++ spots_from q (kind_of k ∷ [])
+con_stored now q k x e = sym (append-nil (spots_in now)) ∙ ap (λ (j : Kind). spots_in now ++ spots_from q (kind_of j ∷ [])) (sym e)
 
 -- the spots of an atom
 
@@ -197,6 +211,10 @@ spots_sized (ρ ∷ ρs) =
 abbrev pub left : List Rule → ℕ → List paper.Rule
 left rs i = map rule_of (drop i rs)
 
+pub rules_long : (rs : List Rule) → length (rules_of rs) ≡ length rs
+unfolding rules_of
+rules_long rs = length-map rs rule_of
+
 -- the rules of a table
 module _ (rs : List Rule) (good : GoodRules rs) where
   left_step : (i : ℕ) → i < length rs → left rs i ≡ rule_of (get_or rs i lost_rule) ∷ left rs (i + 1)
@@ -285,3 +303,6 @@ module _ (ρs : List paper.Rule) (now : List packed.Spot) (zs : List Size) (in_s
 
   pub packed_edges : graph (table zs (spots_in now)) ≡ edges ρs
   packed_edges = ap₂ (λ (z : List Size) (l : List Spot). graph (table z l)) in_sizes in_spots ∙ ap graph (table_spots ρs) ∙ graph_edges ρs
+
+  pub packed_rules_lem : (sum_by (λ (z : Size). z.body + z.head) zs ≤ length now) × (graph (table zs (spots_in now)) ≡ edges ρs)
+  packed_rules_lem = (packed_enough, packed_edges)

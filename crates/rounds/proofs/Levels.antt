@@ -26,6 +26,9 @@ pub record Settling (ps : List Pair) (c : ℕ) (r : List ℕ) : Type 0 where
   pub board : Board c r
   pub sound : Sound (graph ps) r
 
+pub settling_start : (ps : List Pair) (c : ℕ) (r : List ℕ) → length r ≡ 512 → Board c r → Sound (graph ps) r → Settling ps c r
+settling_start ps c r l b s = record { long = l; board = b; sound = s }
+
 -- how much the ranks can still grow
 abbrev pub left : List ℕ → ℕ
 left r = 262144 - sum r

@@ -1,7 +1,7 @@
 // A job's run in storage that is lent eight words longer than it needs and filled with sevens, and its listing, one fact after the other by the
 // line writer. It is put together here and not by `print`, so that the line writer is tried fact by fact.
 // `as` stands where the library has no lossless `From`; that the number fits is proved.
-ghost use Rattle.std.specs.Prelude.{◌<◌, ◌≤◌, length, IfOk};
+ghost use Rattle.std.specs.Prelude.{◌<◌, ◌≤◌, length};
 
 use crate::storage;
 use engine::Ran;
@@ -30,7 +30,7 @@ fn fact(rt: &impl Print, nine: &[u32], job: &[u8]) -> io::Result<()>
 fn refused(rt: &impl Print, refusal: Refusal) -> io::Result<()> {
     let mut line = [0u8; 128];
     let mut w = Writer::new(&mut line);
-    w.refused_line(u64::from(refusal.fault.number()), refusal.place as u64);
+    w.refused_line(u64::from(refusal.number), refusal.place as u64);
     rt.write_all(w.written())
 }
 
@@ -51,37 +51,39 @@ fn head(rt: &impl Print, ran: Ran) -> io::Result<()> {
     rt.write_all(w.written())
 }
 
-// The listing; how many words the facts take, none where the job was refused.
-fn told(
-    rt: &impl Print,
-    job: &[u8],
-    words: &[u32; 9224],
-    answer: Result<Ran, Refusal>,
-) -> io::Result<usize>
-    ensures { IfOk result (λ used. used ≤ 9216) }
+// The lines of the facts, up to one that can't be written.
+fn facts(rt: &impl Print, job: &[u8], words: &[u32; 9224], count: usize) -> io::Result<()> {
+    for nine in words[..9216].chunks_exact(9).take(count) {
+        fact(rt, nine, job)?;
+    }
+    Ok(())
+}
+
+// The listing; how many words the facts take, none where the job was refused. What can't be written is passed over, so that the jobs behind it
+// are still run.
+fn told(rt: &impl Print, job: &[u8], words: &[u32; 9224], answer: Result<Ran, Refusal>) -> usize
+    ensures { result ≤ 9216 }
 {
     match answer {
         Ok(ran) => {
-            head(rt, ran)?;
+            let _ = head(rt, ran);
             let count = ran.outcome.facts;
-            for nine in words[..9216].chunks_exact(9).take(count) {
-                fact(rt, nine, job)?;
-            }
-            Ok(count.min(1024) * 9)
+            let _ = facts(rt, job, words, count);
+            count.min(1024) * 9
         }
         Err(refusal) => {
-            refused(rt, refusal)?;
-            Ok(0)
+            let _ = refused(rt, refusal);
+            0
         }
     }
 }
 
-// The listing of a job, and with it its storage where that is asked for.
+// The listing of a job, and with it its storage where that is asked for, which has to be written whole.
 pub(crate) fn list(rt: &impl Print, job: &[u8], stored: bool) -> io::Result<()> {
     let mut words = [7u32; 9224];
     let mut ranks = [7u16; 520];
     let answer = engine::run(job, &mut words, &mut ranks);
-    let used = told(rt, job, &words, answer)?;
+    let used = told(rt, job, &words, answer);
     if stored {
         storage::show(rt, &words, &ranks, used)?;
     }

@@ -4,14 +4,14 @@ ghost use Rattle.std.specs.Prelude.{◌≤◌};
 use std::fmt::Display;
 use std::io;
 
-// A table behind a line with its name, eight numbers to a line.
+// A table behind a line with its name, eight numbers to a line. What can't be written is passed over; the first fault is told.
 fn table<N: Display + Copy + Drop>(rt: &impl Print, name: &str, numbers: &[N]) -> io::Result<()> {
-    println!(rt; "{name}")?;
+    let mut whole = println!(rt; "{name}");
     for (i, n) in numbers.iter().enumerate() {
         let end = if i % 8 == 7 { "\n" } else { " " };
-        print!(rt; "{}{end}", *n)?;
+        whole = whole.and(print!(rt; "{}{end}", *n));
     }
-    Ok(())
+    whole
 }
 
 // The storage of a run whose facts take so many words.
@@ -24,7 +24,8 @@ pub(crate) fn show(
     requires { used ≤ 9216 }
 {
     let zeros = words[used..9216].iter().filter(|word| **word == 0).count();
-    println!(rt; "zeros {zeros}")?;
-    table(rt, "beyond", &words[9216..])?;
-    table(rt, "ranks", ranks)
+    let counted = println!(rt; "zeros {zeros}");
+    let beyond = table(rt, "beyond", &words[9216..]);
+    let ranked = table(rt, "ranks", ranks);
+    counted.and(beyond).and(ranked)
 }

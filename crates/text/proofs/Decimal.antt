@@ -126,6 +126,17 @@ pub decimal_some : (x : ℕ) → x < ten_digits → 0 < length (decimal x)
 unfolding decimal
 decimal_some x h = (digits_lead 10 x (omega arith) h).0
 
+-- of one digit and of two
+pub decimal_one : (x : ℕ) → x < 10 → decimal x ≡ (48 + x) ∷ []
+unfolding decimal
+decimal_one x h = digits_one 9 x h
+
+pub decimal_two : (x : ℕ) → 10 ≤ x → x < 100 → decimal x ≡ (48 + x / 10) ∷ (48 + x % 10) ∷ []
+unfolding decimal
+decimal_two x h k =
+    let l : x / 10 < 10 = omega arith in
+    digits_more 9 x h ∙ ap (λ ds. ds ++ ((48 + x % 10) ∷ [])) (digits_one 8 (x / 10) l)
+
 -- they are the last ten of all its digits
 last_digits : (n x : ℕ) → x < 2 ^ 64 → digits n x ≡ drop (length (all.decimal x) - n) (all.decimal x)
 last_digits =

@@ -56,8 +56,23 @@ impl<'a> Writer<'a> {
         self.at = end;
     }
 
-    // A number of at most ten digits: those in front of the last ten are left out.
+    // A number of at most ten digits: those in front of the last ten are left out. One digit or two, as most numbers have, are put at once.
     pub fn number(&mut self, x: u64)
+        requires { Space (decimal x) self.old.at self.old.lent.now }
+        ensures { Writes (decimal x) self.old self.new }
+    {
+        if x < 10 {
+            self.byte(b'0' + x as u8);
+        } else if x < 100 {
+            self.byte(b'0' + (x / 10) as u8);
+            self.byte(b'0' + (x % 10) as u8);
+        } else {
+            self.many(x);
+        }
+    }
+
+    // The same for any number, by way of a buffer of its digits.
+    fn many(&mut self, x: u64)
         requires { Space (decimal x) self.old.at self.old.lent.now }
         ensures { Writes (decimal x) self.old self.new }
     {

@@ -1,5 +1,8 @@
 -- `fields::within` meets its contract. Assumes nothing.
 use mathlib.Core.Path.{ap, ◌∙◌}
+use borrow.Author.Rules.{rules}
+use lib.Dec.{leb}
+use Rattle.model.specs.Job.{got, refused, after, pick}
 use borrow.Author.Tests.{le-leb, lt-leb}
 use Rattle.fields.specs.Means.{of_read, within}
 use Rattle.fields.proofs.Laws.{fails, on, kept, lost}
@@ -9,7 +12,8 @@ pub returns-in_default : goal.returns-in_default
 unfolding within
 returns-in_default c =
     let e = ap (of_read (λ x. x)) c.in_default.is in
-    e ∙ fails _ _ _ _ e
+    let handed = fails _ _ _ (λ x p. after (pick (leb c.args.low x) (got (tt {0}) p) (refused 6 c.args.start)) (λ u q. after (pick (leb x c.args.high) (got (tt {0}) q) (refused 6 c.args.start)) (λ v r. got x r))) e in
+    search rules
 
 pub returns-then-x-low : goal.returns-then-x-low
 unfolding within

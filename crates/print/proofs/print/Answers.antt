@@ -1,5 +1,4 @@
 -- `print::print` meets its contract. Assumes nothing.
-use Rattle.fields.specs.Means.{number_of}
 use Rattle.text.proofs.Short.{refused_short}
 use Rattle.model.specs.Answer.{listing_of}
 use borrow.Author.Rules.{rules}
@@ -32,7 +31,7 @@ returns-in-Err c =
     let f = c.refused_line.ensures in
     record {
       puts = rw e (search rules);
-      prefix_len = counted {text = listing_of j} {lent = c.args.out.now} (rw e (search rules)) (rw e (omega (arith, refused_short (number_of c.in-Err.refusal.fault) c.in-Err.refusal.place))) c.requires;
+      prefix_len = counted {text = listing_of j} {lent = c.args.out.now} (rw e (search rules)) (rw e (omega (arith, refused_short c.in-Err.refusal.number c.in-Err.refusal.place))) c.requires;
     }
 
 pub returns-in-Ok : goal.returns-in-Ok

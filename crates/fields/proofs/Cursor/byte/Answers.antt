@@ -1,9 +1,9 @@
 -- `fields::Cursor::byte` meets its contract. Assumes nothing.
-use mathlib.Core.Path.{ap, ◌∙◌}
+use borrow.Author.Rules.{rules}
 use native.Mathlib.Omega.{arith}
 use lib.ListN.{get_or}
 use Rattle.std.proofs.lemmas.Result.{err_from_is_err_and}
-use Rattle.model.specs.Job.{got, byte_at, read_byte}
+use Rattle.model.specs.Job.{byte_at, read_byte}
 use Rattle.fields.proofs.Laws.{field_got, field_missing, first_byte}
 use Rattle.fields.proofs.Cursor.byte.Goals as goal
 
@@ -16,5 +16,5 @@ returns-in_err-byte c =
 pub returns : goal.returns
 unfolding read_byte
 returns c =
-    ap (λ v. got v c.in_ok-byte.next.at) c.from.ensures
-    ∙ field_got 1 byte_at c.args.s.now c.args.self.at (λ b. get_or b 0 0) _ _ (first_byte 1 c.args.s.now c.args.self.at (omega arith)) c.in_ok-byte.ensures
+    let read = field_got 1 byte_at c.args.s.now c.args.self.at (λ b. get_or b 0 0) _ _ (first_byte 1 c.args.s.now c.args.self.at (omega arith)) c.in_ok-byte.ensures in
+    search rules

@@ -1,7 +1,7 @@
 -- `rounds::settle::swept` meets its contract. Assumes nothing.
 use native.Mathlib.Omega.{arith}
-use mathlib.Core.Path.{ap, ◌∙◌}
-use lib.ListN.{take, drop}
+use borrow.Author.Rules.{rules}
+use lib.Seq.{drop-drop}
 use Rattle.rounds.specs.Table.{pairs}
 use Rattle.rounds.proofs.Sweeps.{sweeping_start, sweeping_room, sweeping_ready, sweeping_step, sweeping_end}
 use Rattle.rounds.proofs.settle.swept.Goals as goal
@@ -30,9 +30,8 @@ pub loop-size-preserved : goal.loop-size-preserved
 loop-size-preserved c =
     let loop = c.loop-size in
     let relaxed = c.relaxed-changed in
-    let head = c.split_at-in-loop-size.ensures in
     sweeping_step c.args.cap c.args.r.now (pairs c.args.rules) loop.rest.now loop.r loop.changed c.args.rules.sizes.now loop.size-index c.loop-size-test.true loop.invariant _ _ _ _
-    c.split_at.ensures.front (head.front ∙ ap (take _) c.split_at.ensures.back) (head.back ∙ ap (drop _) c.split_at.ensures.back) _ _ relaxed.ensures.0 relaxed.ensures.1
+    c.split_at.ensures.front (search rules) (search (rules, drop-drop)) _ _ relaxed.ensures.0 relaxed.ensures.1
 
 pub returns : goal.returns
 returns c =
