@@ -34,21 +34,23 @@ fn refused(rt: &impl Print, refusal: Refusal) -> io::Result<()> {
     rt.write_all(w.written())
 }
 
-// The first two lines of a run.
+// The first two lines of a run, each put by itself.
 #[tactic(auto, using(text::proofs::Short::short_lines))]
 fn head(rt: &impl Print, ran: Ran) -> io::Result<()> {
     let mut lines = [0u8; 256];
     let mut w = Writer::new(&mut lines);
     let outcome = ran.outcome;
-    let verdict = ran.verdict;
     w.first_line(
         outcome.ending,
         outcome.steps as u64,
         outcome.facts as u64,
         u64::from(outcome.next),
     );
+    let first = rt.write_all(w.written());
+    let mut w = Writer::new(&mut lines);
+    let verdict = ran.verdict;
     w.second_line(verdict.acyclic, u64::from(verdict.generations));
-    rt.write_all(w.written())
+    first.and(rt.write_all(w.written()))
 }
 
 // The lines of the facts, up to one that can't be written.

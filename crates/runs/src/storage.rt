@@ -6,10 +6,11 @@ use std::io;
 
 // A table behind a line with its name, eight numbers to a line. What can't be written is passed over; the first fault is told.
 fn table<N: Display + Copy + Drop>(rt: &impl Print, name: &str, numbers: &[N]) -> io::Result<()> {
-    let mut whole = println!(rt; "{name}");
+    let mut whole = print!(rt; "{name}\n");
     for (i, n) in numbers.iter().enumerate() {
         let end = if i % 8 == 7 { "\n" } else { " " };
-        whole = whole.and(print!(rt; "{}{end}", *n));
+        let printed = print!(rt; "{}", *n);
+        whole = whole.and(printed).and(print!(rt; "{end}"));
     }
     whole
 }
@@ -24,8 +25,10 @@ pub(crate) fn show(
     requires { used ≤ 9216 }
 {
     let zeros = words[used..9216].iter().filter(|word| **word == 0).count();
-    let counted = println!(rt; "zeros {zeros}");
+    let named = print!(rt; "zeros ");
+    let counted = print!(rt; "{zeros}");
+    let ended = print!(rt; "\n");
     let beyond = table(rt, "beyond", &words[9216..]);
     let ranked = table(rt, "ranks", ranks);
-    counted.and(beyond).and(ranked)
+    named.and(counted).and(ended).and(beyond).and(ranked)
 }

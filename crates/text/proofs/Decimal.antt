@@ -126,7 +126,7 @@ pub decimal_some : (x : ℕ) → x < ten_digits → 0 < length (decimal x)
 unfolding decimal
 decimal_some x h = (digits_lead 10 x (omega arith) h).0
 
--- of one digit and of two
+-- of one digit, of two and of three
 pub decimal_one : (x : ℕ) → x < 10 → decimal x ≡ (48 + x) ∷ []
 unfolding decimal
 decimal_one x h = digits_one 9 x h
@@ -136,6 +136,19 @@ unfolding decimal
 decimal_two x h k =
     let l : x / 10 < 10 = omega arith in
     digits_more 9 x h ∙ ap (λ ds. ds ++ ((48 + x % 10) ∷ [])) (digits_one 8 (x / 10) l)
+
+pub decimal_three : (x : ℕ) → 100 ≤ x → x < 1000 → decimal x ≡ (48 + x / 100) ∷ (48 + x % 100 / 10) ∷ (48 + x % 100 % 10) ∷ []
+unfolding decimal
+decimal_three x h k =
+    let m : 10 ≤ x = omega arith in
+    let n : 10 ≤ x / 10 = omega arith in
+    let l : x / 10 / 10 < 10 = omega arith in
+    let hundreds : x / 10 / 10 ≡ x / 100 = omega arith in
+    let tens : x / 10 % 10 ≡ x % 100 / 10 = omega arith in
+    let ones : x % 10 ≡ x % 100 % 10 = omega arith in
+    digits_more 9 x m
+    ∙ (ap (λ ds. ds ++ ((48 + x % 10) ∷ [])) (digits_more 8 (x / 10) n ∙ ap (λ ds. ds ++ ((48 + x / 10 % 10) ∷ [])) (digits_one 7 (x / 10 / 10) l))
+    ∙ rw (hundreds, tens, ones) refl)
 
 -- they are the last ten of all its digits
 last_digits : (n x : ℕ) → x < 2 ^ 64 → digits n x ≡ drop (length (all.decimal x) - n) (all.decimal x)

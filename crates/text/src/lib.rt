@@ -4,7 +4,7 @@
 
 pub mod listing;
 
-ghost use Rattle.std.specs.Prelude.{◌≡◌, [], ◌∷◌, ◌<◌, ◌≤◌, length, take};
+ghost use Rattle.std.specs.Prelude.{◌≡◌, [], ◌∷◌, ◌+◌, ◌/◌, ◌%◌, ◌<◌, ◌≤◌, length, take};
 ghost use Rattle.model.specs.Lines.{decimal};
 ghost use Rattle.model.specs.Answer.{behind};
 ghost use Rattle.text.specs.Puts.{Space};
@@ -56,7 +56,7 @@ impl<'a> Writer<'a> {
         self.at = end;
     }
 
-    // A number of at most ten digits: those in front of the last ten are left out. One digit or two, as most numbers have, are put at once.
+    // A number of at most ten digits: those in front of the last ten are left out. Up to three digits, as most numbers have, are put at once.
     pub fn number(&mut self, x: u64)
         requires { Space (decimal x) self.old.at self.old.lent.now }
         ensures { Writes (decimal x) self.old self.new }
@@ -64,11 +64,22 @@ impl<'a> Writer<'a> {
         if x < 10 {
             self.byte(b'0' + x as u8);
         } else if x < 100 {
-            self.byte(b'0' + (x / 10) as u8);
-            self.byte(b'0' + (x % 10) as u8);
+            self.two(x);
+        } else if x < 1000 {
+            self.byte(b'0' + (x / 100) as u8);
+            self.two(x % 100);
         } else {
             self.many(x);
         }
+    }
+
+    // The two digits of a number below a hundred.
+    fn two(&mut self, x: u64)
+        requires { (x < 100) × (self.old.at + 2 ≤ length self.old.lent.now) }
+        ensures { Writes ((48 + x / 10) ∷ (48 + x % 10) ∷ []) self.old self.new }
+    {
+        self.byte(b'0' + (x / 10) as u8);
+        self.byte(b'0' + (x % 10) as u8);
     }
 
     // The same for any number, by way of a buffer of its digits.
